@@ -1,0 +1,5 @@
+mod Calls
+mod Free
+mod Places
+mod Runs
+mod Stores

@@ -1,0 +1,6 @@
+use borrow.Author.Needs.{needs}
+use Rattle.std.proofs.shelf.Lists.{set-past}
+use Rattle.object_map.proofs.store.vacate_in.Needs as need
+
+pub returns-else-index-used : need.returns-else-index-used
+returns-else-index-used g c = search (needs, set-past)
