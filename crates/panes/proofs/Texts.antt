@@ -40,6 +40,6 @@ all-digits (b ∷ bs) some = refl
 pub take-within : {X : Type 0} (i n : ℕ) (xs : List X) → i ≡ min n (length xs) → take i xs ≡ take n xs
 take-within i n xs e =
     elim (cases-lt (length xs) n) [
-      inl l ↦ take-all i xs (omega arith) ∙ sym (take-all n xs (omega arith))
-    | inr le ↦ let same : i ≡ n = omega arith in ap (λ k. take k xs) same
+      | inl l ↦ take-all i xs (omega arith) ∙ sym (take-all n xs (omega arith))
+      | inr le ↦ let same : i ≡ n = omega arith in ap (λ k. take k xs) same
     ]

@@ -44,7 +44,8 @@ fn push(value: Option<u64>, byte: u8) -> Option<u64>
     ensures { λ r. ⌜ r ≡ pushed value byte ⌝ }
 {
     match value {
-        Some(n) if byte >= b'0' && byte <= b'9' => n.checked_mul(10)?.checked_add(u64::from(byte - b'0')),
+        Some(n) if byte >= b'0' && byte <= b'9' => n.checked_mul(10)?
+            .checked_add(u64::from(byte - b'0')),
         _ => None,
     }
 }

@@ -40,7 +40,13 @@ fn list(rt: &impl Print, map: &mut ObjectMap, panes: &mut [Option<Pane>]) -> io:
 }
 
 /// What one line asks for; blank lines and those that begin with `#` ask for nothing.
-fn obey(rt: &impl Print, map: &mut ObjectMap, panes: &mut [Option<Pane>], number: u64, line: &[u8]) -> io::Result<()> {
+fn obey(
+    rt: &impl Print,
+    map: &mut ObjectMap,
+    panes: &mut [Option<Pane>],
+    number: u64,
+    line: &[u8],
+) -> io::Result<()> {
     if line.is_empty() || line[0] == b'#' {
         return Ok(());
     }

@@ -103,9 +103,18 @@ pub fn apply(map: &mut ObjectMap, panes: &mut [Option<Pane>], command: Command) 
 pub impl fmt::Display for Answer as AnswerDisplay {
     fn fmt<W: fmt::Write>(&self, f: &mut fmt::Formatter<W>) -> fmt::Result {
         match *self {
-            Answer::Opened(number, Pane { width, height }) => write!(f, "opened {number}: {width} x {height}"),
-            Answer::Shown(number, Pane { width, height }) => write!(f, "pane {number}: {width} x {height}"),
-            Answer::Resized(number, Pane { width, height }) => write!(f, "resized {number}: {width} x {height}"),
+            Answer::Opened(number, Pane { width, height }) => write!(
+                f,
+                "opened {number}: {width} x {height}"
+            ),
+            Answer::Shown(number, Pane { width, height }) => write!(
+                f,
+                "pane {number}: {width} x {height}"
+            ),
+            Answer::Resized(number, Pane { width, height }) => write!(
+                f,
+                "resized {number}: {width} x {height}"
+            ),
             Answer::Closed(number) => write!(f, "closed {number}"),
             Answer::Listed(count) => write!(f, "open panes: {count}"),
             Answer::Refused(refusal) => {

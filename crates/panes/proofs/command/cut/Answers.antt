@@ -17,8 +17,8 @@ returns-then-end-line c =
 pub returns : need.returns
 returns c =
     elim (c .loop-end-test .came) [
-      then-loop-end-test·else-line-end-ne32 w ↦
-        let cuts = cut-word (c .args .line .now) (c .loop-end .end) (omega arith) (omega arith) (c .loop-end .inv .1) in
-        record { first = cuts .0; after = cuts .1 }
-    | else-loop-end-test w ↦ absurd (omega arith)
+      | then-loop-end-test·else-line-end-ne32 w ↦
+          let cuts = cut-word (c .args .line .now) (c .loop-end .end) (omega arith) (omega arith) (c .loop-end .inv .1) in
+          record { first = cuts .0; after = cuts .1 }
+      | else-loop-end-test w ↦ absurd (omega arith)
     ]

@@ -11,12 +11,12 @@ use Rattle.panes.proofs.table.count_open.Needs.{then-is-some, else-is-some}
 pub loop-i-again : need.loop-i-again
 loop-i-again c =
     elim (c .if-is-some .came) [
-      then-is-some w ↦
-        let e = countBy-more-yes isSome (c .args .panes .now) (c .loop-i .i) None (omega arith) (sym (c .is-some .ensures) ∙ w .if-is-some .taken) in
-        (omega (arith, w .open-is), omega (arith, w .open-is, e))
-    | else-is-some w ↦
-        let e = countBy-more-no isSome (c .args .panes .now) (c .loop-i .i) None (omega arith) (sym (c .is-some .ensures) ∙ w .if-is-some .left) in
-        (omega (arith, w .open-is), omega (arith, w .open-is, e))
+      | then-is-some w ↦
+          let e = countBy-more-yes isSome (c .args .panes .now) (c .loop-i .i) None (omega arith) (sym (c .is-some .ensures) ∙ w .if-is-some .taken) in
+          (omega (arith, w .open-is), omega (arith, w .open-is, e))
+      | else-is-some w ↦
+          let e = countBy-more-no isSome (c .args .panes .now) (c .loop-i .i) None (omega arith) (sym (c .is-some .ensures) ∙ w .if-is-some .left) in
+          (omega (arith, w .open-is), omega (arith, w .open-is, e))
     ]
 
 pub returns : need.returns
