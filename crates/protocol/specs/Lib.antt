@@ -1,0 +1,11 @@
+pub mod Arguments
+pub mod Core
+pub mod Descriptions
+pub mod Equal
+pub mod Faults
+pub mod Laws
+pub mod Lookups
+pub mod Pairwise
+pub mod Refusals
+pub mod Rules
+pub mod Words

@@ -1,0 +1,6 @@
+//! Examples for the crate `protocol`: tables that keep the rules but for one, and handles.
+
+#[cfg(test)]
+mod handles;
+#[cfg(test)]
+mod tables;
