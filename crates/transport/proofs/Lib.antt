@@ -1,0 +1,11 @@
+pub mod Balances
+pub mod Clips
+pub mod Frames
+pub mod Layers
+pub mod Lays
+pub mod Lists
+pub mod Queues
+pub mod Rings
+pub mod Rooms
+pub mod Sending
+pub mod Stacks

@@ -1,0 +1,10 @@
+pub mod Wire
+pub mod Layout
+pub mod Drafts
+pub mod Signatures
+pub mod Frames
+pub mod Rings
+pub mod Ends
+pub mod Lists
+pub mod Layers
+pub mod Laws
