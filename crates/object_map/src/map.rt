@@ -12,6 +12,9 @@ ghost use Rattle.object_map.specs.Map.{mapOf, creation, finding, removing, ins
 ghost use Rattle.object_map.specs.Laws.{Inserts, InsertsNew, Removes, Updates};
 ghost use Rattle.object_map.specs.Runs.{Stands, Begins, find-call, remove-call, insert-at-call, insert-new-call, update-call};
 
+/// The most places that a room may have.
+pub const MAX_PLACES: usize = 65535;
+
 /// What the map remembers between calls: how many places each room had at creation, and how many of them, from the
 /// start, have been in use.
 #[derive(Clone, Copy, PartialEq, Eq, Debug)]

@@ -9,7 +9,7 @@ ghost use Rattle.std.specs.Vec.{made};
 ghost use Rattle.object_map.specs.Store.{Store, storeOf, at, emptied, vacate, insert, firstFree, insertFree, rewrite};
 
 /// Empties every slot.
-pub fn empty_all<R: Copy>(room: &mut [Option<R>])
+pub(crate) fn empty_all<R: Copy>(room: &mut [Option<R>])
     ensures { λ _. ⌜ now (room .exit) ≡ emptied (now (room .entry)) ⌝ }
 {
     for slot in room.iter_mut() {
@@ -18,7 +18,7 @@ pub fn empty_all<R: Copy>(room: &mut [Option<R>])
 }
 
 /// The record at `index`.
-pub fn find_in<R: Copy>(room: &[Option<R>], used: u16, index: usize) -> Option<R>
+pub(crate) fn find_in<R: Copy>(room: &[Option<R>], used: u16, index: usize) -> Option<R>
     ensures { λ r. ⌜ r ≡ at index (storeOf (now (room .entry)) used) ⌝ }
 {
     if index < used as usize && index < room.len() {
@@ -29,7 +29,7 @@ pub fn find_in<R: Copy>(room: &[Option<R>], used: u16, index: usize) -> Option<R
 }
 
 /// Empties the slot at `index`.
-pub fn vacate_in<R: Copy>(room: &mut [Option<R>], used: u16, index: usize)
+pub(crate) fn vacate_in<R: Copy>(room: &mut [Option<R>], used: u16, index: usize)
     ensures { λ _. ⌜ storeOf (now (room .exit)) used ≡ vacate index (storeOf (now (room .entry)) used) ⌝ }
 {
     if index < used as usize && index < room.len() {
@@ -38,7 +38,7 @@ pub fn vacate_in<R: Copy>(room: &mut [Option<R>], used: u16, index: usize)
 }
 
 /// Puts `record` at `index`, an empty place or the next one.
-pub fn insert_in_at<R: Copy>(
+pub(crate) fn insert_in_at<R: Copy>(
     room: &mut [Option<R>],
     used: &mut u16,
     index: usize,
@@ -63,7 +63,7 @@ pub fn insert_in_at<R: Copy>(
 }
 
 /// The first empty place in use, else the next one.
-pub fn free_in<R: Copy>(room: &[Option<R>], used: u16) -> usize
+pub(crate) fn free_in<R: Copy>(room: &[Option<R>], used: u16) -> usize
     ensures { λ r. ⌜ r ≡ firstFree (storeOf (now (room .entry)) used) ⌝ }
 {
     let mut index = 0;
@@ -76,7 +76,7 @@ pub fn free_in<R: Copy>(room: &[Option<R>], used: u16) -> usize
 }
 
 /// Puts `record` at the first empty place, else at the next one.
-pub fn insert_in<R: Copy>(
+pub(crate) fn insert_in<R: Copy>(
     room: &mut [Option<R>],
     used: &mut u16,
     record: R,
@@ -97,7 +97,7 @@ pub fn insert_in<R: Copy>(
 }
 
 /// Changes the record at `index`.
-pub fn update_in<R: Copy, U: Update<R>>(
+pub(crate) fn update_in<R: Copy, U: Update<R>>(
     room: &mut [Option<R>],
     used: u16,
     index: usize,

@@ -267,7 +267,7 @@ fn same_messages(a: &[MessageDesc<'_>], b: &[MessageDesc<'_>]) -> bool
 }
 
 /// Whether two names are the same: the lengths first, then the bytes.
-pub fn same_name(a: &[u8], b: &[u8]) -> bool
+pub(crate) fn same_name(a: &[u8], b: &[u8]) -> bool
     ensures { λ r. ⌜ r ≡ sameBytes (now (a .entry)) (now (b .entry)) ⌝ }
 {
     a == b
@@ -305,7 +305,7 @@ fn begins_with_core(interfaces: &[Interface<'_>]) -> bool
 }
 
 /// All rules together.
-pub fn well_formed(interfaces: &[Interface<'_>]) -> bool
+pub(crate) fn well_formed(interfaces: &[Interface<'_>]) -> bool
     ensures { λ r. ⌜ r ≡ wellFormed (described (now (interfaces .entry))) ⌝ }
 {
     table_sized(interfaces)

@@ -1,15 +1,13 @@
 -- The theorems about ends.
 use mathlib.Core.Path.{_≡_, refl, sym, _∙_, ap, subst}
-use mathlib.Core.Logic.{inl, inr}
 use mathlib.Core.List.{List, [], _∷_, _++_, append-assoc, append-nil}
 use mathlib.Core.Bool.{Bool, true, false, cond}
-use Prim.Native.Nat.{ℕ, _+_, _-_, _<_}
+use Prim.Native.Nat.{ℕ, _+_, _<_}
 use native.Mathlib.Omega.{arith}
 use lib.Dec.{eqb}
-use lib.ListN.{length, take, drop}
+use lib.ListN.{take, drop}
 use Rattle.std.proofs.shelf.Lists.{take-append-drop}
 use Rattle.std.proofs.shelf.Tests.{cond-true, cond-false, eq-eqb, ne-eqb, eqb-false, false≢true}
-use Rattle.std.proofs.shelf.Ways.{eqb-tells}
 use Rattle.std.specs.Iters.{folded}
 use Rattle.std.specs.Joined.{joined}
 use Rattle.std.specs.Orderings.{Decides}
@@ -17,12 +15,12 @@ use Rattle.std.specs.Results.{isOk}
 use Rattle.std.specs.declared.result.Result.{Result}
 use Rattle.std.specs.declared.result.Result.the-variants.{Ok, Err}
 use Rattle.protocol.specs.declared.error.TransportFault.{TransportFault}
-use Rattle.transport.specs.Wire.{Message, message, clipped}
+use Rattle.transport.specs.Wire.{Message, message}
 use Rattle.transport.specs.Rings.{Queue}
 use Rattle.transport.specs.Ends.{End, fault, sending, putFault, putting, flushing}
 use Rattle.transport.specs.Lists.{Listed, endOf, collecting}
-use Rattle.transport.specs.Layers.{total, over, Layers, passing, flushThrough, flushedBelow, andThen, leftBehind, stacked}
-use Rattle.transport.specs.Laws.{Clipped-once, Put-exactly, Full-over-list, Full-over-layer, Flushed-empty, In-order, Moment, Act, put, flush, collect, other, acceptedBy, Step, Run, Balanced, Nothing-lost}
+use Rattle.transport.specs.Layers.{total, over, Layers, passing, andThen, leftBehind, stacked}
+use Rattle.transport.specs.Laws.{Clipped-once, Put-exactly, Full-over-list, Full-over-layer, Flushed-empty, In-order, Moment, Act, put, flush, collect, other, acceptedBy, Step, Balanced, Nothing-lost}
 use Rattle.transport.proofs.Clips.{held-held}
 use Rattle.transport.proofs.Layers.{put-ok, put-err, pass-facts, Passed}
 

@@ -1,17 +1,15 @@
 -- Arguments cut to a number of bytes, and laid one after another.
 use mathlib.Core.Path.{_≡_, refl, sym, _∙_, ap}
-use mathlib.Core.Bool.{cond, true, false}
+use mathlib.Core.Bool.{cond}
 use mathlib.Core.Logic.{inl, inr}
 use lib.Dec.{eqb}
 use mathlib.Core.List.{List, [], _∷_, _++_, map, append-assoc, append-nil}
-use Prim.Native.Nat.{ℕ, suc, _+_, _-_, _<_, _≤_, min}
+use Prim.Native.Nat.{ℕ, suc, _+_, _-_, _≤_, min}
 use native.Mathlib.Omega.{arith}
 use lib.ListN.{length, take, drop, length-append, length-take}
-use Rattle.std.proofs.shelf.Lists.{take-all, take-take, take-at, drop-at}
+use Rattle.std.proofs.shelf.Lists.{take-all, take-at, drop-at}
 use Rattle.std.proofs.shelf.Ways.{eqb-tells}
 use Rattle.std.specs.declared.option.Option.the-variants.{Some, None}
-use Rattle.protocol.specs.declared.argument.Argument.{Argument}
-use Rattle.protocol.specs.declared.id.ObjectId.{ObjectId}
 use Rattle.transport.specs.Wire.{Arg, int, uint, fixed, str, object, new-id, array, fd, bytesOf, texts, cut, clip, held, given}
 use Rattle.transport.specs.Layout.{placed, laid, argOf, argsOf}
 
@@ -70,7 +68,7 @@ cut-fits n (new-id x) h = refl
 cut-fits n (array b) h = ap array (take-all n b h)
 cut-fits n (fd x) h = refl
 
-pub clip-fits : (n : ℕ) (xs : List Arg) → length (texts xs) ≤ n → clip n xs ≡ xs
+clip-fits : (n : ℕ) (xs : List Arg) → length (texts xs) ≤ n → clip n xs ≡ xs
 clip-fits n [] h = refl
 clip-fits n (x ∷ xs) h =
     let l = length-append (bytesOf x) (texts xs) in
@@ -81,7 +79,7 @@ clip-fits n (x ∷ xs) h =
 pub held-fits : (xs : List Arg) → length xs ≤ 20 → length (texts xs) ≤ 1024 → held xs ≡ xs
 held-fits xs h k = ap (clip 1024) (take-all 20 xs h) ∙ clip-fits 1024 xs k
 
-pub held-few : (xs : List Arg) → length (held xs) ≤ 20
+held-few : (xs : List Arg) → length (held xs) ≤ 20
 held-few xs = omega (arith, length-clip 1024 (take 20 xs), length-take 20 xs)
 
 -- what a frame holds, it holds whole

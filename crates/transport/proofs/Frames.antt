@@ -1,8 +1,8 @@
 -- What a frame holds, once it is written, read and checked against a signature.
 use mathlib.Core.Path.{_≡_, refl, sym, _∙_, ap}
-use mathlib.Core.List.{List, [], _∷_, _++_, map}
-use mathlib.Core.Bool.{Bool, true, false, cond, _&&_}
-use Prim.Native.Nat.{ℕ, _+_, _-_, _<_, _≤_, min}
+use mathlib.Core.List.{List, [], _∷_, map}
+use mathlib.Core.Bool.{true, false}
+use Prim.Native.Nat.{ℕ, _-_, _≤_, min}
 use native.Mathlib.Omega.{arith}
 use lib.ListN.{length, take, drop}
 use Rattle.std.proofs.shelf.Lists.{take-at, take-map}
@@ -14,9 +14,9 @@ use Rattle.protocol.specs.declared.argument.Argument.{Argument}
 use Rattle.protocol.specs.declared.argument.Argument.the-variants.{Int, Uint, Fixed, Str, Object, NewId, Array, Fd}
 use Rattle.protocol.specs.declared.argument.ArgumentType.{ArgumentType}
 use Rattle.protocol.specs.declared.id.ObjectId.{ObjectId}
-use Rattle.transport.specs.Wire.{Arg, Message, message, bytesOf, texts, cut, clip, held, given}
+use Rattle.transport.specs.Wire.{Arg, bytesOf, texts, cut, clip, held, given}
 use Rattle.transport.specs.Layout.{argOf, argsOf, laid, written, layInto}
-use Rattle.transport.specs.Signatures.{takes, kindOf, fits, fitsRaw}
+use Rattle.transport.specs.Signatures.{kindOf, fits, fitsRaw}
 use Rattle.transport.specs.Frames.{Filled, roomy, filled, reading, unpacking}
 use Rattle.transport.specs.declared.frame.TakeError.{TakeError}
 use Rattle.transport.specs.declared.frame.TakeError.the-variants.{Malformed}

@@ -1,18 +1,17 @@
 -- Frames passed down, and a layer over an end.
 use mathlib.Core.Path.{_≡_, refl, sym, _∙_, ap, subst}
 use mathlib.Core.Logic.{inl, inr}
-use mathlib.Core.List.{List, [], _∷_, _++_, append-assoc, append-nil}
+use mathlib.Core.List.{List, [], _∷_, _++_, append-assoc}
 use mathlib.Core.Bool.{Bool, true, false, cond}
 use Prim.Native.Nat.{ℕ, _+_, _-_, _<_, _≤_}
 use native.Mathlib.Omega.{arith}
 use lib.Dec.{eqb, leb}
-use lib.ListN.{length, length-append}
+use lib.ListN.{length}
 use Rattle.std.proofs.shelf.Lists.{length-push}
-use Rattle.std.proofs.shelf.Tests.{cond-true, cond-false, eqb-true, eqb-false, eq-eqb, ne-eqb, leb-true, leb-false, le-leb, lt-leb, true≢false}
-use Rattle.std.proofs.shelf.Ways.{eqb-tells, leb-tells, tells}
+use Rattle.std.proofs.shelf.Tests.{cond-true, cond-false, eqb-true, eqb-false, eq-eqb, ne-eqb, le-leb, lt-leb, true≢false}
+use Rattle.std.proofs.shelf.Ways.{eqb-tells, leb-tells}
 use Rattle.std.specs.Results.{Cases}
 use Rattle.std.specs.shelf.Maps.{nth}
-use Rattle.std.specs.declared.option.Option.{Option}
 use Rattle.std.specs.declared.option.Option.the-variants.{Some, None}
 use Rattle.std.specs.declared.result.Result.{Result}
 use Rattle.std.specs.declared.result.Result.the-variants.{Ok, Err}
@@ -176,7 +175,7 @@ flush-grounded r e e′ q q′ h g n =
     let read : e′ .readStop ≡ e .readStop = ap (λ (x : End). x .readStop) (t .same) in
     record { low = λ z. absurd (omega arith); reads = λ z. g .reads (read ∙ z); stops = λ z. g .stops (stop ∙ z) }
 
-pub flush-same : (r : Result (Unit {0}) TransportFault) (e e′ : End) (q q′ : Queue) → _≡_ {A = Layers} (r, e′, q′) (passing e q) → over e′ q′ ≡ over e q
+flush-same : (r : Result (Unit {0}) TransportFault) (e e′ : End) (q q′ : Queue) → _≡_ {A = Layers} (r, e′, q′) (passing e q) → over e′ q′ ≡ over e q
 flush-same r e e′ q q′ h = subst (λ (t : Layers). Passed e q t) (sym h) (pass-facts e (q .frames) (q .free)) .same
 
 -- a flush answers as the layer's end would
@@ -210,7 +209,7 @@ answer-over (Err f) e q w =
     let above : cond (leb (e .hold + (length (q .frames) + q .free)) (e .room + q .free)) (Ok tt) (Err (fault 0 11)) ≡ Err (fault 0 11) = cond-false _ (Ok tt) (Err (fault 0 11)) high in
     stopped-so (eqb (e .writeStop) 0) (cond (leb (e .hold) (e .room)) (Ok tt) (Err (fault 0 11))) _ (e .writeStop) (blocked (leb (e .hold) (e .room))) above
 
-pub flush-answer : (r : Result (Unit {0}) TransportFault) (e e′ : End) (q q′ : Queue) → _≡_ {A = Layers} (r, e′, q′) (passing e q) → andThen (flushing e′) (leftBehind r) ≡ flushing (over e q)
+flush-answer : (r : Result (Unit {0}) TransportFault) (e e′ : End) (q q′ : Queue) → _≡_ {A = Layers} (r, e′, q′) (passing e q) → andThen (flushing e′) (leftBehind r) ≡ flushing (over e q)
 flush-answer r e e′ q q′ h =
     let t = subst (λ (t : Layers). Passed e q t) (sym h) (pass-facts e (q .frames) (q .free)) in
     answer-over r e′ q′ (t .ways) ∙ ap flushing (t .same)

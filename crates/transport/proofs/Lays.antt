@@ -1,16 +1,16 @@
 -- The loop that lays arguments, one after another.
-use mathlib.Core.Path.{_≡_, refl, sym, _∙_, ap}
+use mathlib.Core.Path.{_≡_, sym, _∙_, ap}
 use mathlib.Core.List.{List, [], _∷_, _++_, map}
 use Prim.Native.Nat.{ℕ, _+_, _-_, _<_, _≤_, min}
 use native.Mathlib.Omega.{arith}
-use lib.ListN.{length, take, drop, set, getD, length-take, length-append}
-use Rattle.std.proofs.shelf.Lists.{take-more, length-take-le, length-push, getD-map, length-map}
+use lib.ListN.{length, take, set, getD, length-take, length-append}
+use Rattle.std.proofs.shelf.Lists.{take-more, length-take-le, getD-map, length-map}
 use Rattle.protocol.specs.declared.argument.Argument.{Argument}
 use Rattle.protocol.specs.declared.id.ObjectId.{ObjectId}
 use Rattle.transport.specs.Wire.{Arg, bytesOf, texts, cut, clip, held, given}
 use Rattle.transport.specs.Layout.{argOf, argsOf, placed, laid, written, overwritten, layOne, layInto}
 use Rattle.transport.proofs.Rooms.{written-more, written-push, take-min}
-use Rattle.transport.proofs.Clips.{size-cut, clip-push, texts-push, laid-push, length-clip, length-laid, size-clip}
+use Rattle.transport.proofs.Clips.{clip-push, texts-push, laid-push, length-clip, length-laid, size-clip}
 
 -- the bytes in use and the two rooms, once values are laid
 abbrev pub laying : List Arg → List (Argument ObjectId) → List ℕ → ℕ × List (Argument ObjectId) × List ℕ
@@ -30,7 +30,7 @@ joins : {X : Type 0} (t room₀ room ys t′ : List X) (n : ℕ) → n ≡ lengt
 joins t room₀ room ys t′ n e p q = let w = written-more t ys room₀ in cc
 
 module _ (xs : List Arg) (places₀ : List (Argument ObjectId)) (room₀ : List ℕ) where
-  pub lay-more : (i end next : ℕ) (places : List (Argument ObjectId)) (room room′ : List ℕ) (x : Arg) (a : Argument ObjectId) → i < length xs → i < length places₀
+  lay-more : (i end next : ℕ) (places : List (Argument ObjectId)) (room room′ : List ℕ) (x : Arg) (a : Argument ObjectId) → i < length xs → i < length places₀
       → getD xs i x ≡ x → (end, places, room) ≡ laying (soFar xs i) places₀ room₀ → ((a, next), room′) ≡ layOne end x room
       → (next, set places i a, room′) ≡ laying (soFar xs (i + 1)) places₀ room₀
   lay-more i end next places room room′ x a h k at inv step =
@@ -53,7 +53,7 @@ module _ (xs : List Arg) (places₀ : List (Argument ObjectId)) (room₀ : List 
       ap (λ (s : (Argument ObjectId × ℕ) × List ℕ). s .1) step ∙ joins (texts m) room₀ room (bytesOf y) (texts (m ++ y ∷ [])) end e r (texts-push m y) in
       together _ _ _ _ _ _ first second third ∙ ap (λ (l : List Arg). laying l places₀ room₀) (sym more)
 
-  pub lay-all : (n i end : ℕ) (places : List (Argument ObjectId)) (room : List ℕ) → n ≡ min (length xs) 20 → n ≤ i → i ≤ n → (end, places, room) ≡ laying (soFar xs i) places₀ room₀
+  lay-all : (n i end : ℕ) (places : List (Argument ObjectId)) (room : List ℕ) → n ≡ min (length xs) 20 → n ≤ i → i ≤ n → (end, places, room) ≡ laying (soFar xs i) places₀ room₀
       → (n, places, room) ≡ layInto (held xs) places₀ room₀
   lay-all n i end places room c h k inv =
       let j : i ≡ min (length xs) 20 = omega arith in

@@ -3,7 +3,6 @@ pub mod Clips
 pub mod Frames
 pub mod Layers
 pub mod Lays
-pub mod Lists
 pub mod Queues
 pub mod Rings
 pub mod Rooms

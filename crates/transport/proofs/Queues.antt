@@ -1,9 +1,8 @@
 -- A room that is read from a place on: one more, the first ones less, one of them.
-use mathlib.Core.Path.{_≡_, refl, sym, _∙_, ap}
+use mathlib.Core.Path.{_≡_, sym, _∙_, ap}
 use mathlib.Core.Logic.{_⊎_, inl, inr}
-use mathlib.Core.List.{List, [], _∷_, _++_, map, append-assoc, append-nil}
-use mathlib.Core.Bool.{cond}
-use Prim.Native.Nat.{ℕ, zero, suc, _+_, _-_, _<_, _≤_, min}
+use mathlib.Core.List.{List, _++_, append-assoc, append-nil}
+use Prim.Native.Nat.{ℕ, _+_, _-_, _<_, _≤_}
 use native.Mathlib.Omega.{arith}
 use lib.Dec.{ltb}
 use lib.ListN.{length, take, drop, set, getD, length-append, length-take, length-drop, length-set}
@@ -13,13 +12,13 @@ use Rattle.std.proofs.shelf.Lists.{take-all, take-take, take-append-le, take-ap
 use Rattle.transport.specs.Rings.{rotated, start, place}
 
 -- the head as it counts: inside the room, or the first place
-pub start-cases : (n h : ℕ) → ((h < n) × (start n h ≡ h)) ⊎ ((n ≤ h) × (start n h ≡ 0))
+start-cases : (n h : ℕ) → ((h < n) × (start n h ≡ h)) ⊎ ((n ≤ h) × (start n h ≡ 0))
 start-cases n h = elim (cases-lt h n) [
   | inl l ↦ inl (l, cond-true (ltb h n) h 0 (lt-ltb h n l))
   | inr l ↦ inr (l, cond-false (ltb h n) h 0 (le-ltb h n l))
 ]
 
-pub start-in : (n h : ℕ) → start n h ≤ n
+start-in : (n h : ℕ) → start n h ≤ n
 start-in n h = elim (start-cases n h) [ inl w ↦ omega (arith, w .0, w .1) | inr w ↦ omega (arith, w .0, w .1) ]
 
 place-cases : (n h i : ℕ) → ((i < n - start n h) × (place n h i ≡ start n h + i)) ⊎ ((n - start n h ≤ i) × (place n h i ≡ i - (n - start n h)))
@@ -46,9 +45,6 @@ module _ {X : Type 0} where
 
     pub length-rotated : length (rotated h xs) ≡ length xs
     length-rotated = omega (arith, length-append (drop h xs) (take h xs), length-drop h xs, length-take h xs)
-
-    length-here : length (rotated (start (length xs) h) xs) ≡ length xs
-    length-here = ap length rotated-start ∙ length-rotated
 
   -- one place written
   set-at-place : (xs : List X) (s i p : ℕ) (x : X) → s ≤ length xs → i < length xs → ((i < length xs - s) × (p ≡ s + i)) ⊎ ((length xs - s ≤ i) × (p ≡ i - (length xs - s))) → rotated s (set xs p x) ≡ set (rotated s xs) i x

@@ -1,12 +1,12 @@
 -- Rooms written from their start, a part more each time.
 use mathlib.Core.Path.{_≡_, refl, sym, _∙_, ap}
 use mathlib.Core.List.{List, [], _∷_, _++_, append-assoc}
-use Prim.Native.Nat.{ℕ, _+_, _-_, _<_, _≤_, min}
+use Prim.Native.Nat.{ℕ, _+_, _-_, _<_, min}
 use native.Mathlib.Omega.{arith}
 use mathlib.Core.Logic.{inl, inr}
 use lib.ListN.{length, take, drop, set, getD, length-append, length-take, length-drop}
 use lib.Seq.{drop-drop}
-use Rattle.std.proofs.shelf.Lists.{take-at, drop-at, drop-more, set-at, length-push, take-all, take-take, length-take-le, drop-all, take-append-drop}
+use Rattle.std.proofs.shelf.Lists.{take-at, drop-at, drop-more, set-at, length-push, take-all, take-take, drop-all, take-append-drop}
 use Rattle.std.proofs.shelf.Tests.{cases-lt}
 use borrow.Rule.Slice.PartMut.{putMid}
 use Rattle.transport.specs.Layout.{overwritten, written}

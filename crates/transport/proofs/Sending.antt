@@ -1,11 +1,11 @@
 -- What may be sent is not cut.
 use mathlib.Core.Path.{_≡_, refl, sym, _∙_, ap}
-use mathlib.Core.List.{List, [], _∷_, _++_, map}
+use mathlib.Core.List.{List, [], _∷_, map}
 use mathlib.Core.Bool.{Bool, true, false, cond, _&&_}
 use Prim.Native.Nat.{ℕ, _+_, _-_, _<_, _≤_}
 use native.Mathlib.Omega.{arith}
 use lib.Dec.{leb}
-use lib.ListN.{length, take, drop, getD, length-append, length-take}
+use lib.ListN.{length, drop, getD, length-append, length-take}
 use Rattle.std.proofs.shelf.Lists.{length-map, at-drop-more, at-drop-all}
 use Rattle.std.proofs.shelf.Tests.{and-parts, leb-true, false≢true}
 use Rattle.std.specs.declared.option.Option.{Option}
@@ -16,9 +16,9 @@ use Rattle.protocol.specs.declared.argument.Span.{Span}
 use Rattle.protocol.specs.declared.argument.Argument.{Argument}
 use Rattle.protocol.specs.declared.argument.Argument.the-variants.{Int, Uint, Fixed, Str, Object, NewId, Array, Fd}
 use Rattle.protocol.specs.declared.id.ObjectId.{ObjectId}
-use Rattle.transport.specs.Wire.{Arg, message, bytesOf, texts, held, given}
+use Rattle.transport.specs.Wire.{Arg, message, bytesOf, texts, given}
 use Rattle.transport.specs.Layout.{argOf, argsOf, spanned}
-use Rattle.transport.specs.Drafts.{Draft, Whole, inside, leftAfter, whenLeft, sendable, accepted}
+use Rattle.transport.specs.Drafts.{Whole, inside, leftAfter, whenLeft, sendable, accepted}
 use Rattle.transport.proofs.Clips.{held-fits, texts-given}
 
 cond-some : (t : Bool) (k m : ℕ) → cond t (Some k) None ≡ Some m → (t ≡ true) × (k ≡ m)

@@ -27,9 +27,11 @@ pub record Draft : Type 0 where
   pub written : Message
   pub child : ℕ
 
+-- what a message in the code says
 abbrev pub draftOf : Outgoing → Draft
 draftOf o = record { written = message (o .sender) (o .opcode) (argsOf (now (o .args)) (now (o .text))); child = o .child }
 
+-- the same, with another number for a null new object
 abbrev pub withChild : ℕ → Draft → Draft
 withChild n d = record { written = d .written; child = n }
 
@@ -75,9 +77,11 @@ sendable n text (a ∷ rest) = whenLeft (leftAfter n text a) (λ m. sendable m t
 abbrev pub accepted : List (Argument ObjectId) → List ℕ → Bool
 accepted args text = leb (length args) 20 && sendable 1024 text args
 
+-- a draft without a child, or a refusal
 abbrev pub composing : ℕ → ℕ → List (Argument ObjectId) → List ℕ → Result Draft Refusal
 composing s o args text = cond (accepted args text) (Ok (record { written = message s o (argsOf args text); child = 0 })) (Err BadSignature)
 
+-- the draft that was made, if one was
 abbrev pub composed : Result Outgoing Refusal → Result Draft Refusal
 composed (Ok o) = Ok (draftOf o)
 composed (Err e) = Err e

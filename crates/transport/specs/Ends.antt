@@ -4,7 +4,6 @@ use mathlib.Core.List.{List, [], _∷_, _++_}
 use mathlib.Core.Bool.{cond}
 use Prim.Native.Nat.{ℕ, _-_}
 use lib.Dec.{eqb, leb}
-use lib.ListN.{length}
 use Rattle.std.specs.Results.{Cases}
 use Rattle.std.specs.declared.option.Option.{Option}
 use Rattle.std.specs.declared.option.Option.the-variants.{Some, None}
@@ -46,6 +45,7 @@ pub record End : Type 0 where
   pub hold : ℕ
   pub height : ℕ
 
+-- a fault of a layer
 abbrev pub fault : ℕ → ℕ → TransportFault
 fault l c = record { layer = l; code = c }
 
@@ -54,6 +54,7 @@ abbrev pub firstOr : Option (ℕ × ℕ) → ℕ → Result (ℕ × ℕ) Transpo
 firstOr (Some m) stop = Ok m
 firstOr None stop = Err (fault 0 (cond (eqb stop 0) 11 stop))
 
+-- what `first` answers
 abbrev pub firstIn : End → Result (ℕ × ℕ) TransportFault
 firstIn e = firstOr (first-of (e .waiting)) (e .readStop)
 
@@ -66,6 +67,7 @@ abbrev pub takenOr : Option (List Arg × Waiting) → End → List (Argument Obj
 takenOr None e args text = ((Err Malformed, args, text), e)
 takenOr (Some (xs, rest)) e args text = (filled xs args text, leaving rest e)
 
+-- a take: rooms that are too small are refused first
 abbrev pub taking : List ArgumentType → End → List (Argument ObjectId) → List ℕ → Filled ℕ TakeError × End
 taking signature e args text = cond (roomy args text) (takenOr (take-of signature (e .waiting)) e args text) ((Err (Refused BadRoom), args, text), e)
 
@@ -77,6 +79,7 @@ sending m e = record { waiting = e .waiting; readStop = e .readStop; sent = e .s
 abbrev pub putFault : End → TransportFault
 putFault e = cond (eqb (e .writeStop) 0) (cond (eqb (e .hold) 0) (fault 0 11) (fault (e .height) 7)) (fault 0 (e .writeStop))
 
+-- a put: the frame is sent where there is room; else nothing changes
 abbrev pub putting : Message → End → Result (Unit {0}) TransportFault × End
 putting m e = cond (eqb (e .room) 0) (Err (putFault e), e) (Ok tt, sending m e)
 

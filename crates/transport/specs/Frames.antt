@@ -34,6 +34,7 @@ Filled A E = Result A E × List (Argument ObjectId) × List ℕ
 abbrev pub filled : {E : Type 0} → List Arg → List (Argument ObjectId) → List ℕ → Filled ℕ E
 filled xs args text = (Ok (length xs), written (laid 0 xs) args, written (texts xs) text)
 
+-- the arguments of a frame read out; rooms that are too small are refused
 abbrev pub reading : List Arg → List (Argument ObjectId) → List ℕ → Filled ℕ Refusal
 reading xs args text = cond (roomy args text) (filled xs args text) (Err BadRoom, args, text)
 

@@ -1,9 +1,8 @@
 -- What holds of every end and every stack of ends.
 use mathlib.Core.Path.{_≡_}
 use mathlib.Core.List.{List, [], _∷_, _++_}
-use mathlib.Core.Bool.{true}
 use Prim.Native.Nat.{ℕ, _<_}
-use lib.ListN.{length, take}
+use lib.ListN.{take}
 use Rattle.std.specs.Joined.{joined}
 use Rattle.std.specs.Orderings.{Decides}
 use Rattle.std.specs.Results.{isOk}
@@ -12,7 +11,7 @@ use Rattle.std.specs.declared.result.Result.the-variants.{Ok, Err}
 use Rattle.protocol.specs.declared.error.TransportFault.{TransportFault}
 use Rattle.transport.specs.Wire.{Message, clipped}
 use Rattle.transport.specs.Rings.{Queue}
-use Rattle.transport.specs.Ends.{End, fault, putFault, putting}
+use Rattle.transport.specs.Ends.{End, fault, putting}
 use Rattle.transport.specs.Lists.{Listed, endOf, collecting}
 use Rattle.transport.specs.Layers.{total, over, flushThrough, stacked}
 
@@ -54,6 +53,7 @@ pub data Act : Type 0 where
   collect : ℕ → Act
   other : Act
 
+-- what a put added, by its answer
 abbrev pub acceptedBy : Result (Unit {0}) TransportFault → Message → List Message
 acceptedBy (Ok _) m = m ∷ []
 acceptedBy (Err _) m = []

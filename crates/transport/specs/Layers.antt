@@ -25,6 +25,7 @@ capacityOf n = max 1 (min n 8)
 abbrev pub heldOf : Held → Queue
 heldOf h = queueOf (h .ring) (take (capacityOf (h .capacity)) (h .places))
 
+-- a queue of frames and free places
 abbrev pub queue : List Message → ℕ → Queue
 queue ms n = record { frames = ms; free = n }
 
@@ -54,10 +55,12 @@ abbrev pub passedOr : Result (Unit {0}) TransportFault × End → Queue → (End
 passedOr (Ok x, e) q go = go e
 passedOr (Err f, e) q go = (Err f, e, q)
 
+-- all that is held, one frame after another; each that is taken leaves a free place
 abbrev pub passDown : End → List Message → ℕ → Layers
 passDown e [] n = (Ok tt, e, queue [] n)
 passDown e (m ∷ ms) n = passedOr (putting m e) (queue (m ∷ ms) n) (λ e′. passDown e′ ms (n + 1))
 
+-- the same of a queue
 abbrev pub passing : End → Queue → Layers
 passing e q = passDown e (q .frames) (q .free)
 
@@ -65,6 +68,7 @@ passing e q = passDown e (q .frames) (q .free)
 abbrev pub raised : TransportFault → TransportFault
 raised f = cond (eqb (f .code) 11) (fault 1 7) f
 
+-- the same of an answer
 abbrev pub raisedIn : Result (Unit {0}) TransportFault → Result (Unit {0}) TransportFault
 raisedIn (Ok x) = Ok x
 raisedIn (Err f) = Err (raised f)
@@ -74,9 +78,11 @@ abbrev pub heldOr : Bool × Queue → End → (Queue → Layers) → Layers
 heldOr (true, q) e go = (Ok tt, e, q)
 heldOr (false, q) e go = go q
 
+-- the second try; where there is still no place the fault from below comes out
 abbrev pub holdAgain : Message → Layers → Layers
 holdAgain m (r, e, q) = heldOr (pushing m q) e (λ q′. (raisedIn r, e, q′))
 
+-- a put through the layer
 abbrev pub putThrough : Message → End → Queue → Layers
 putThrough m e q = heldOr (pushing m q) e (λ q′. holdAgain m (passing e q′))
 
@@ -85,13 +91,16 @@ abbrev pub leftBehind : Result (Unit {0}) TransportFault → Result (Unit {0}) T
 leftBehind (Ok x) = Ok x
 leftBehind (Err f) = Err (fault 0 11)
 
+-- the first fault of two answers
 abbrev pub andThen : Result (Unit {0}) TransportFault → Result (Unit {0}) TransportFault → Result (Unit {0}) TransportFault
 andThen (Ok x) r = r
 andThen (Err f) r = Err f
 
+-- the answer of the end below comes first
 abbrev pub flushedBelow : Layers → Layers
 flushedBelow (r, e, q) = (andThen (flushing e) (leftBehind r), e, q)
 
+-- a flush through the layer
 abbrev pub flushThrough : End → Queue → Layers
 flushThrough e q = flushedBelow (passing e q)
 
@@ -99,6 +108,7 @@ flushThrough e q = flushedBelow (passing e q)
 abbrev pub buffering : {E : Type 0} → E → ℕ → Result (E × Queue) (Refusal × E)
 buffering lower n = cond (leb 1 n && leb n 8) (Ok (lower, queue [] n)) (Err (BadRoom, lower))
 
+-- the layer that was made, if one was
 abbrev pub layered : {E : Type 0} → Result (BufferedEnd E) (Refusal × E) → Result (E × Queue) (Refusal × E)
 layered (Ok b) = Ok (b .lower, heldOf (b .held))
 layered (Err x) = Err x

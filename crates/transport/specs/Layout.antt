@@ -25,6 +25,7 @@ argOf text (NewId id) = new-id (id .number)
 argOf text (Array s) = array (spanned text s)
 argOf text (Fd x) = fd x
 
+-- the same of several
 abbrev pub argsOf : List (Argument ObjectId) → List ℕ → List Arg
 argsOf args text = map (argOf text) args
 
@@ -49,10 +50,11 @@ abbrev pub laid : ℕ → List Arg → List (Argument ObjectId)
 laid o [] = []
 laid o (x ∷ xs) = placed o x ∷ laid (o + length (bytesOf x)) xs
 
--- a room with ys written over it from the place n on, and from its start
+-- a room with ys written over it from the place n on
 abbrev pub overwritten : {X : Type 0} → ℕ → List X → List X → List X
 overwritten n ys room = take n room ++ (ys ++ drop (n + length ys) room)
 
+-- the same from its start
 abbrev pub written : {X : Type 0} → List X → List X → List X
 written ys room = ys ++ drop (length ys) room
 

@@ -1,5 +1,5 @@
 -- The list end: the end at the bottom, over two rooms of frames.
-use mathlib.Core.List.{List, []}
+use mathlib.Core.List.{[]}
 use mathlib.Core.Bool.{Bool, cond}
 use Prim.Native.Nat.{ℕ, min}
 use denote.Ref.{now}
@@ -21,6 +21,7 @@ pub record Listed : Type 0 where
 abbrev pub stopOf : ℕ → ℕ
 stopOf code = cond (eqb code 11) 0 code
 
+-- what a list end in the code holds
 abbrev pub listOf : ListEnd → Listed
 listOf s = record { incoming = queueOf (s .waiting) (now (s .incoming)); readStop = stopOf (s .«read_stop»); outgoing = queueOf (s .sent) (now (s .outgoing)); writeStop = stopOf (s .«write_stop») }
 
@@ -36,6 +37,7 @@ endOf l = record {
   height = 0;
 }
 
+-- and means
 abbrev pub listMeans : ListEnd → End
 listMeans s = endOf (listOf s)
 
@@ -43,9 +45,11 @@ listMeans s = endOf (listOf s)
 abbrev pub fresh : ℕ → ℕ → Listed
 fresh n m = record { incoming = record { frames = []; free = n }; readStop = 0; outgoing = record { frames = []; free = m }; writeStop = 0 }
 
+-- the same end with other frames that wait
 abbrev pub withIncoming : Queue → Listed → Listed
 withIncoming q l = record { incoming = q; readStop = l .readStop; outgoing = l .outgoing; writeStop = l .writeStop }
 
+-- the same end with other sent frames
 abbrev pub withOutgoing : Queue → Listed → Listed
 withOutgoing q l = record { incoming = l .incoming; readStop = l .readStop; outgoing = q; writeStop = l .writeStop }
 
@@ -57,9 +61,10 @@ delivering m l = (pushing m (l .incoming) .0, withIncoming (pushing m (l .incomi
 abbrev pub collecting : ℕ → Listed → ℕ × Listed
 collecting n l = (min n (length (l .outgoing .frames)), withOutgoing (releasing n (l .outgoing)) l)
 
--- reading or writing stops, or goes on
+-- reading stops, or goes on
 abbrev pub stoppingReads : ℕ → Listed → Listed
 stoppingReads code l = record { incoming = l .incoming; readStop = stopOf code; outgoing = l .outgoing; writeStop = l .writeStop }
 
+-- writing stops, or goes on
 abbrev pub stoppingWrites : ℕ → Listed → Listed
 stoppingWrites code l = record { incoming = l .incoming; readStop = l .readStop; outgoing = l .outgoing; writeStop = stopOf code }

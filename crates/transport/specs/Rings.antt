@@ -14,10 +14,11 @@ use Rattle.transport.specs.declared.ring.Ring.{Ring}
 abbrev pub rotated : {X : Type 0} → ℕ → List X → List X
 rotated h room = drop h room ++ take h room
 
--- the place that is i behind h, in a room of n
+-- the head as it counts, in a room of n places
 abbrev pub start : ℕ → ℕ → ℕ
 start n h = cond (ltb h n) h 0
 
+-- the place that is i behind the head h, round the room's end
 abbrev pub place : ℕ → ℕ → ℕ → ℕ
 place n h i = cond (ltb i (n - start n h)) (start n h + i) (i - (n - start n h))
 
@@ -30,6 +31,7 @@ pub record Queue : Type 0 where
   pub frames : List Message
   pub free : ℕ
 
+-- the queue that a ring is in a room
 abbrev pub queueOf : Ring → List Frame → Queue
 queueOf r room = record { frames = ringOf r room; free = length room - r .count }
 

@@ -1,5 +1,5 @@
 -- A message as a value: no room, no offset.
-use mathlib.Core.List.{List, [], _∷_, _++_, map}
+use mathlib.Core.List.{List, [], _∷_}
 use mathlib.Core.Bool.{cond}
 use Prim.Native.Nat.{ℕ, _-_}
 use lib.Dec.{eqb}
@@ -20,11 +20,13 @@ pub data Arg : Type 0 where
   array : List ℕ → Arg
   fd : ℕ → Arg
 
+-- a message, and a frame as a value
 pub record Message : Type 0 where
   pub sender : ℕ
   pub opcode : ℕ
   pub args : List Arg
 
+-- the message of these parts
 abbrev pub message : ℕ → ℕ → List Arg → Message
 message s o xs = record { sender = s; opcode = o; args = xs }
 
@@ -65,6 +67,7 @@ clip n (x ∷ xs) = cut n x ∷ clip (n - length (bytesOf x)) xs
 abbrev pub held : List Arg → List Arg
 held xs = clip 1024 (take 20 xs)
 
+-- a message as far as a frame can hold it
 abbrev pub clipped : Message → Message
 clipped m = message (m .sender) (m .opcode) (held (m .args))
 

@@ -84,7 +84,7 @@ fn lay_one(
 
 /// Lays arguments and their texts into two rooms from their start, one after another, as far as a
 /// frame holds them; a null new object becomes the child. Answers how many arguments it laid.
-pub fn lay(
+pub(crate) fn lay(
     child: u32,
     args: &[Argument<ObjectId>],
     text: &[u8],

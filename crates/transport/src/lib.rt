@@ -10,3 +10,6 @@ pub mod outgoing;
 mod ring;
 pub mod transport;
 pub mod world;
+
+pub use layout::MAX_ARGS;
+pub use layout::MAX_TEXT;

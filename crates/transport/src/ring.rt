@@ -4,7 +4,6 @@ use crate::frame::Frame;
 use crate::outgoing::Outgoing;
 ghost use mathlib.Core.Path.{_≡_};
 ghost use Prim.Native.Nat.{min};
-ghost use lib.ListN.{length};
 ghost use Rattle.std.specs.Options.{mapped};
 ghost use Rattle.std.specs.shelf.Maps.{nth};
 ghost use Rattle.transport.specs.Drafts.{outgoingOf};

@@ -1,5 +1,6 @@
 //! The work of the calls, each held to its definition.
 
+use super::MAX_PLACES;
 use super::ObjectMap;
 use crate::number::Place;
 use crate::number::place_of;
@@ -17,10 +18,7 @@ ghost use lib.ListN.{length};
 ghost use Rattle.std.specs.Vec.{made};
 ghost use Rattle.object_map.specs.Map.{mapOf, creation, lent, finding, removing, insertingAt, insertingNew, updating};
 
-/// The most places that a room may have.
-pub const MAX_PLACES: usize = 65535;
-
-pub fn create<R: Copy>(
+pub(crate) fn create<R: Copy>(
     client: &mut [Option<R>],
     server: &mut [Option<R>],
 ) -> Result<ObjectMap, Refusal>
@@ -56,7 +54,7 @@ fn check_rooms<R: Copy>(
     }
 }
 
-pub fn find<R: Copy>(
+pub(crate) fn find<R: Copy>(
     map: &ObjectMap,
     client: &[Option<R>],
     server: &[Option<R>],
@@ -74,7 +72,7 @@ pub fn find<R: Copy>(
     )
 }
 
-pub fn remove<R: Copy>(
+pub(crate) fn remove<R: Copy>(
     map: &ObjectMap,
     client: &mut [Option<R>],
     server: &mut [Option<R>],
@@ -91,7 +89,7 @@ pub fn remove<R: Copy>(
     Ok(())
 }
 
-pub fn insert_at<R: Copy>(
+pub(crate) fn insert_at<R: Copy>(
     map: &mut ObjectMap,
     client: &mut [Option<R>],
     server: &mut [Option<R>],
@@ -108,7 +106,7 @@ pub fn insert_at<R: Copy>(
     }
 }
 
-pub fn client_insert_new<R: Copy>(
+pub(crate) fn client_insert_new<R: Copy>(
     map: &mut ObjectMap,
     client: &mut [Option<R>],
     server: &[Option<R>],
@@ -122,7 +120,7 @@ pub fn client_insert_new<R: Copy>(
     Ok(index as u32 + 1)
 }
 
-pub fn update<R: Copy, U: Update<R>>(
+pub(crate) fn update<R: Copy, U: Update<R>>(
     map: &ObjectMap,
     client: &mut [Option<R>],
     server: &mut [Option<R>],

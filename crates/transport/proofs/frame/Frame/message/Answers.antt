@@ -1,8 +1,7 @@
-use mathlib.Core.Path.{_≡_, sym, _∙_, ap}
-use mathlib.Core.List.{List}
-use Prim.Native.Nat.{ℕ, _-_, min}
+use mathlib.Core.Path.{_≡_, ap}
+use Prim.Native.Nat.{_-_, min}
 use native.Mathlib.Omega.{arith}
-use Rattle.transport.specs.Wire.{Arg, message}
+use Rattle.transport.specs.Wire.{message}
 use Rattle.transport.proofs.Frames.{held-front}
 use Rattle.transport.proofs.frame.Frame.message.Needs as need
 

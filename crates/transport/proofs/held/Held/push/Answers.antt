@@ -1,4 +1,4 @@
-use mathlib.Core.Path.{_≡_, sym, _∙_, ap}
+use mathlib.Core.Path.{_≡_, _∙_, ap}
 use mathlib.Core.List.{List, _++_}
 use mathlib.Core.Bool.{Bool}
 use Prim.Native.Nat.{ℕ, _-_}
@@ -6,7 +6,7 @@ use native.Mathlib.Omega.{arith}
 use lib.ListN.{length, take, length-take}
 use Rattle.std.proofs.shelf.Lists.{take-at}
 use Rattle.transport.specs.Wire.{Message}
-use Rattle.transport.specs.Rings.{Queue, queueOf, pushing}
+use Rattle.transport.specs.Rings.{queueOf, pushing}
 use Rattle.transport.specs.Layers.{capacityOf}
 use Rattle.transport.specs.declared.frame.Frame.{Frame}
 use Rattle.transport.specs.declared.ring.Ring.{Ring}
