@@ -19,6 +19,7 @@ use Rattle.object_map.specs.declared.refusal.Refusal.the-variants.{Vacant, Cli
 abbrev pub occupiedIn : {R : Type 0} → Store R → ℕ
 occupiedIn s = countBy isSome (take (s .used) (s .slots))
 
+-- and in both stores
 abbrev pub occupied : {R : Type 0} → Map R → ℕ
 occupied m = occupiedIn (m .client) + occupiedIn (m .server)
 
@@ -50,20 +51,22 @@ pub record Changed {R : Type 0} (f : R → R) (n : ℕ) (m m′ : Map R) : Type 
   pub others : Others n m m′
   pub as-many : occupied m′ ≡ occupied m
 
--- a refusal changes nothing
+-- what insert_at comes to; a refusal changes nothing
 abbrev pub Inserts : {R : Type 0} → ℕ → R → Map R → Result (Unit {0}) Refusal → Map R → Type 0
 Inserts n r m (Ok _) m′ = Put n r m m′
 Inserts n r m (Err _) m′ = m′ ≡ m
 
--- the client room is full exactly when each of its numbers is occupied
+-- what client_insert_new comes to; it tells that the client room is full only where each of its numbers is occupied
 abbrev pub InsertsNew : {R : Type 0} → R → Map R → Result ℕ Refusal → Map R → Type 0
 InsertsNew r m (Ok n) m′ = Put n r m m′ × (1 ≤ n) × (n ≤ m .clientPlaces) × Smallest n m
 InsertsNew r m (Err e) m′ = (m′ ≡ m) × (e ≡ ClientFull → Smallest (m .clientPlaces + 1) m)
 
+-- what remove comes to
 abbrev pub Removes : {R : Type 0} → ℕ → Map R → Result (Unit {0}) Refusal → Map R → Type 0
 Removes n m (Ok _) m′ = Emptied n m m′
 Removes n m (Err _) m′ = m′ ≡ m
 
+-- what update comes to; it tells that there is no record only where there is none
 abbrev pub Updates : {R : Type 0} → (R → R) → ℕ → Map R → Result (Unit {0}) Refusal → Map R → Type 0
 Updates f n m (Ok _) m′ = Changed f n m m′
 Updates f n m (Err e) m′ = (m′ ≡ m) × (e ≡ Vacant → lookup n m ≡ None)

@@ -32,6 +32,7 @@ mapOf o c s = record {
   serverPlaces = o .«server_places»;
 }
 
+-- a map with another client store, and with another server store
 abbrev pub withClient : {R : Type 0} → Map R → Store R → Map R
 withClient m s = record { client = s; server = m .server; clientPlaces = m .clientPlaces; serverPlaces = m .serverPlaces }
 
@@ -53,6 +54,7 @@ creation c s =
 abbrev pub fits : {R : Type 0} → Map R → Bool
 fits m = eqb (length (m .client .slots)) (m .clientPlaces) && eqb (length (m .server .slots)) (m .serverPlaces)
 
+-- the check of the rooms that every call makes first
 abbrev pub lent : {R : Type 0} → Map R → Result (Unit {0}) Refusal
 lent m = cond (fits m) (Ok tt) (Err Rooms)
 

@@ -33,10 +33,12 @@ after (update-call f n) m = updating f n m .1
 abbrev pub History : Type 0
 History = List ℕ
 
+-- a number that an accepted call answered, before the others
 abbrev pub noted : {T : Type 0} → (T → ℕ) → Result T Refusal → History → History
 noted f (Ok x) h = f x ∷ h
 noted f (Err _) h = h
 
+-- the numbers used once a call is done
 abbrev pub using-now : {R : Type 0} → Call R → Map R → History → History
 using-now (find-call n) m h = h
 using-now (remove-call n) m h = h

@@ -18,6 +18,7 @@ pub record Store (R : Type 0) : Type 0 where
   pub slots : List (Option R)
   pub used : ℕ
 
+-- the store that a room and a length make
 abbrev pub storeOf : {R : Type 0} → List (Option R) → ℕ → Store R
 storeOf room n = record { slots = room; used = n }
 
@@ -51,10 +52,11 @@ firstFree s = leading isSome (take (s .used) (s .slots))
 abbrev pub insertFree : {R : Type 0} → R → Store R → Result ℕ Refusal × Store R
 insertFree r s = cond (ltb (firstFree s) (length (s .slots))) (Ok (firstFree s), fill r (firstFree s) s) (Err ClientFull, s)
 
--- the record at a place changed
+-- the record at a place changed, by what the slot holds
 abbrev pub rewriteSlot : {R : Type 0} → (R → R) → Option R → ℕ → Store R → Result (Unit {0}) Refusal × Store R
 rewriteSlot f None i s = (Err Vacant, s)
 rewriteSlot f (Some r) i s = (Ok tt, storeOf (set (s .slots) i (Some (f r))) (s .used))
 
+-- the record at a place changed, where there is one
 abbrev pub rewrite : {R : Type 0} → (R → R) → ℕ → Store R → Result (Unit {0}) Refusal × Store R
 rewrite f i s = rewriteSlot f (at i s) i s

@@ -30,16 +30,18 @@ abbrev pub resized : ℕ → Pane → Result (Unit {0}) Refusal × Map Pane → 
 resized n p (Ok _, m) = (Resized n p, m)
 resized n p (Err e, m) = (Refused e, m)
 
--- close: a pane that is there goes
+-- close: the pane goes
 abbrev pub removed : ℕ → Result (Unit {0}) Refusal × Map Pane → Answer × Map Pane
 removed n (Ok _, m) = (Closed n, m)
 removed n (Err e, m) = (Refused e, m)
 
+-- where there is one
 abbrev pub closed : ℕ → Result (Option Pane) Refusal → Map Pane → Answer × Map Pane
 closed n (Ok (Some p)) m = removed n (removing n m)
 closed n (Ok None) m = (Refused Vacant, m)
 closed n (Err e) m = (Refused e, m)
 
+-- each command's answer, and the map that it leaves
 abbrev pub applied : Command → Map Pane → Answer × Map Pane
 applied (Open p) m = opened p (insertingNew p m)
 applied (Show n) m = (shown n (finding n m), m)
