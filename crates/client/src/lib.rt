@@ -1,4 +1,5 @@
 //! The client side of a Wayland connection: what each call answers and leaves, and the law over whole runs.
+#![tactic(auto)]
 
 pub mod connection;
 pub mod laws;

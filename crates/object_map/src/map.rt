@@ -116,9 +116,9 @@ impl ObjectMap {
         id: u32,
         change: &U,
     ) -> Result<(), Refusal>
-        ensures defined { (result, map_of self.now client.new server.new) ≡ updating (updated change.now) id (map_of self.now client.old server.old) }
-        ensures changes { Updates (updated change.now) id (map_of self.now client.old server.old) result (map_of self.now client.new server.new) }
-        ensures stands { Stands (update_call (updated change.now) id) (map_of self.now client.old server.old) (map_of self.now client.new server.new) }
+        ensures defined { (result, map_of self.now client.new server.new) ≡ updating (U.updated change.now) id (map_of self.now client.old server.old) }
+        ensures changes { Updates (U.updated change.now) id (map_of self.now client.old server.old) result (map_of self.now client.new server.new) }
+        ensures stands { Stands (update_call (U.updated change.now) id) (map_of self.now client.old server.old) (map_of self.now client.new server.new) }
     {
         calls::update(self, client, server, id, change)
     }

@@ -101,7 +101,7 @@ pub(crate) fn update_in<R: Copy, U: Update<R>>(
     index: usize,
     update: &U,
 ) -> Result<(), Refusal>
-    ensures { (result, store_of room.new used) ≡ rewrite (updated update.now) index (store_of room.old used) }
+    ensures { (result, store_of room.new used) ≡ rewrite (U.updated update.now) index (store_of room.old used) }
 {
     if index >= used as usize || index >= room.len() {
         return Err(Refusal::Vacant);

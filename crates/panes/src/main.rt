@@ -1,4 +1,5 @@
 //! A viewer's pane table, driven by commands on standard input, one a line.
+#![tactic(auto)]
 
 mod command;
 mod pane;

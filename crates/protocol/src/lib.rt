@@ -1,4 +1,5 @@
 //! The descriptions of a Wayland protocol, the handles of its objects, and what can go wrong.
+#![tactic(auto)]
 
 pub mod argument;
 pub mod core_interfaces;

@@ -1,6 +1,7 @@
 //! Frames go down a stack of ends, are carried over to another end and taken there: the transport at work.
 //!
 //! Reads how many frames to send, and prints how many arrived and the sum of what they carry.
+#![tactic(auto)]
 
 use anyhow::anyhow;
 use protocol::argument::{Argument, ArgumentType};

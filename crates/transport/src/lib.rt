@@ -1,4 +1,5 @@
 //! The transport of a Wayland client: frames as fixed places, and the ends that they pass through.
+#![tactic(auto)]
 
 pub mod buffered;
 pub mod frame;

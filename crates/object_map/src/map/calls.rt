@@ -116,7 +116,7 @@ pub(crate) fn update<R: Copy, U: Update<R>>(
     id: u32,
     change: &U,
 ) -> Result<(), Refusal>
-    ensures { (result, map_of map.now client.new server.new) ≡ updating (updated change.now) id (map_of map.now client.old server.old) }
+    ensures { (result, map_of map.now client.new server.new) ≡ updating (U.updated change.now) id (map_of map.now client.old server.old) }
 {
     check_rooms(map, client, server)?;
     match place_of(id) {

@@ -2,16 +2,16 @@ use Rattle.std.proofs.Common.{is_some, None, count_by, sym, ap, ◌∙◌, arith
 use Rattle.std.proofs.lemmas.List.Sums.{count_by_more_yes, count_by_more_no}
 use Rattle.panes.proofs.Texts.{take_within}
 use Rattle.panes.proofs.table.count_open.Goals as goal
-use Rattle.panes.proofs.table.count_open.Goals.{then-is-some, else-is-some}
+use Rattle.panes.proofs.table.count_open.Goals.{then-is_some, else-is_some}
 
 pub loop-i-preserved : goal.loop-i-preserved
 loop-i-preserved c =
-    elim c.if-is-some.branch [
-      | then-is-some w ↦
-          let e = count_by_more_yes is_some c.args.panes.now c.loop-i.i None (omega arith) (sym c.is-some.ensures ∙ w.if-is-some.true) in
+    elim c.if-is_some.branch [
+      | then-is_some w ↦
+          let e = count_by_more_yes is_some c.args.panes.now c.loop-i.i None (omega arith) (sym c.is_some.ensures ∙ w.if-is_some.true) in
           (omega (arith, w.open-is), omega (arith, w.open-is, e))
-      | else-is-some w ↦
-          let e = count_by_more_no is_some c.args.panes.now c.loop-i.i None (omega arith) (sym c.is-some.ensures ∙ w.if-is-some.false) in
+      | else-is_some w ↦
+          let e = count_by_more_no is_some c.args.panes.now c.loop-i.i None (omega arith) (sym c.is_some.ensures ∙ w.if-is_some.false) in
           (omega (arith, w.open-is), omega (arith, w.open-is, e))
     ]
 

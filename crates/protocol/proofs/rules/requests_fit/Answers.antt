@@ -5,13 +5,13 @@ use Rattle.protocol.specs.Rules.{request_fits}
 use Rattle.protocol.proofs.Scans.{scan_no, scan_more, scan_all}
 use Rattle.protocol.proofs.rules.requests_fit.Goals as goal
 
-pub returns-then-not-request-fits : goal.returns-then-not-request-fits
-returns-then-not-request-fits c =
-    scan_no (λ ms. all (request_fits c.args.count) (map message_of ms)) (λ m. request_fits c.args.count (message_of m)) refl (λ _ _. refl) c.args.requests.now c.loop-i.i _ (omega arith) c.if-not-request-fits.ensures c.loop-i.invariant
+pub returns-then-not-request_fits : goal.returns-then-not-request_fits
+returns-then-not-request_fits c =
+    scan_no (λ ms. all (request_fits c.args.count) (map message_of ms)) (λ m. request_fits c.args.count (message_of m)) refl (λ _ _. refl) c.args.requests.now c.loop-i.i _ (omega arith) c.if-not-request_fits.ensures c.loop-i.invariant
 
 pub loop-i-preserved : goal.loop-i-preserved
 loop-i-preserved c =
-    scan_more (λ ms. all (request_fits c.args.count) (map message_of ms)) (λ m. request_fits c.args.count (message_of m)) refl (λ _ _. refl) c.args.requests.now c.loop-i.i _ (omega arith) c.if-not-request-fits.ensures c.loop-i.invariant
+    scan_more (λ ms. all (request_fits c.args.count) (map message_of ms)) (λ m. request_fits c.args.count (message_of m)) refl (λ _ _. refl) c.args.requests.now c.loop-i.i _ (omega arith) c.if-not-request_fits.ensures c.loop-i.invariant
 
 pub returns : goal.returns
 returns c =

@@ -7,13 +7,13 @@ use Rattle.protocol.proofs.rules.same_descriptions.Goals as goal
 pub returns-then-a-b : goal.returns-then-a-b
 returns-then-a-b c = alike_apart (λ x y. same_description (description_of x) (description_of y)) c.args.a.now c.args.b.now c.if-a-b.true ∙ alike_map same_description description_of c.args.a.now c.args.b.now
 
-pub returns-then-not-same-description : goal.returns-then-not-same-description
-returns-then-not-same-description c =
-    alike_no (λ x y. same_description (description_of x) (description_of y)) c.args.a.now c.args.b.now c.loop-i.i _ _ (omega arith) (omega arith) _ c.if-not-same-description.ensures refl c.loop-i.invariant ∙ alike_map same_description description_of c.args.a.now c.args.b.now
+pub returns-then-not-same_description : goal.returns-then-not-same_description
+returns-then-not-same_description c =
+    alike_no (λ x y. same_description (description_of x) (description_of y)) c.args.a.now c.args.b.now c.loop-i.i _ _ (omega arith) (omega arith) _ c.if-not-same_description.ensures refl c.loop-i.invariant ∙ alike_map same_description description_of c.args.a.now c.args.b.now
 
 pub loop-i-preserved : goal.loop-i-preserved
 loop-i-preserved c =
-    alike_more (λ x y. same_description (description_of x) (description_of y)) c.args.a.now c.args.b.now c.loop-i.i _ _ (omega arith) (omega arith) _ c.if-not-same-description.ensures refl c.loop-i.invariant
+    alike_more (λ x y. same_description (description_of x) (description_of y)) c.args.a.now c.args.b.now c.loop-i.i _ _ (omega arith) (omega arith) _ c.if-not-same_description.ensures refl c.loop-i.invariant
 
 pub returns : goal.returns
 returns c = alike_all (λ x y. same_description (description_of x) (description_of y)) c.args.a.now c.args.b.now c.loop-i.i (omega arith) (omega arith) c.loop-i.invariant ∙ alike_map same_description description_of c.args.a.now c.args.b.now

@@ -5,10 +5,10 @@ use Rattle.transport.specs.Layers.{held_of}
 use Rattle.transport.proofs.Layers.{put_err, pass_end, pass_stop, pass_total}
 use Rattle.transport.proofs.buffered.pass.Goals as goal
 
-pub returns-in-err-put : goal.returns-in-err-put
-returns-in-err-put g c =
-    let p = err_from_is_err_and c.from-residual.result c.from-residual.ensures.1 in
-    let q = c.in-err-put.ensures in
+pub returns-in_err-put : goal.returns-in_err-put
+returns-in_err-put g c =
+    let p = err_from_is_err_and c.from_residual.result c.from_residual.ensures.1 in
+    let q = c.in_err-put.ensures in
     let e = put_err _ _ _ _ q.defined in
     rw (p.1, p.2)
     (record {
@@ -20,7 +20,7 @@ returns-in-err-put g c =
 pub returns : goal.returns
 returns g c =
     record {
-      passed = pass_end _ (held_of c.loop-frame.held).frames (held_of c.loop-frame.held).free c.in-default.ensures.frame ∙ sym c.loop-frame.invariant;
+      passed = pass_end _ (held_of c.loop-frame.held).frames (held_of c.loop-frame.held).free c.in_default.ensures.frame ∙ sym c.loop-frame.invariant;
       grounded = tt;
       places = omega (arith, pass_total _ _ (held_of c.loop-frame.held) (held_of c.args.held.now) c.loop-frame.invariant, c.first.ensures.places);
     }

@@ -7,6 +7,6 @@ returns c =
     let l : c.min-len.result ≡ min (min c.args.span.len (length c.args.text.now - c.min-start.result)) (1024 - c.args.at) = omega arith in
     record {
       fits = omega arith;
-      len = length-wanted c.args.text.now c.args.room.now _ c.args.span.start c.args.span.len (1024 - c.args.at) c.args.at c.min-start.result c.min-len.result c.min-start.ensures l c.copy-from-slice.ensures.after;
-      room = copied c.args.text.now c.args.room.now _ c.args.span.start c.args.span.len (1024 - c.args.at) c.args.at c.min-start.result c.min-len.result c.min-start.ensures l c.copy-from-slice.ensures.after;
+      len = length-wanted c.args.text.now c.args.room.now _ c.args.span.start c.args.span.len (1024 - c.args.at) c.args.at c.min-start.result c.min-len.result c.min-start.ensures l c.copy_from_slice.ensures.after;
+      room = copied c.args.text.now c.args.room.now _ c.args.span.start c.args.span.len (1024 - c.args.at) c.args.at c.min-start.result c.min-len.result c.min-start.ensures l c.copy_from_slice.ensures.after;
     }

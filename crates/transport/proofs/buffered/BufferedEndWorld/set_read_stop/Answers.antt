@@ -5,7 +5,7 @@ use Rattle.transport.proofs.buffered.BufferedEndWorld.set_read_stop.Goals as goa
 pub returns : goal.returns
 returns g c =
     record {
-      defined = c.set-read-stop.ensures.defined;
-      above = above_same (held_of c.args.self.now.held) _ _ c.set-read-stop.ensures.above;
-      stack = stacked_more (held_of c.args.self.now.held) _ (g.E.World.bottom c.set-read-stop.new.self) (g.E.World.above c.set-read-stop.new.self) c.set-read-stop.ensures.stack;
+      defined = c.set_read_stop.ensures.defined;
+      above = above_same (held_of c.args.self.now.held) _ _ c.set_read_stop.ensures.above;
+      stack = stacked_more (held_of c.args.self.now.held) _ (g.E.World.bottom c.set_read_stop.new.self) (g.E.World.above c.set_read_stop.new.self) c.set_read_stop.ensures.stack;
     }

@@ -5,7 +5,7 @@ use Rattle.transport.proofs.buffered.BufferedEndWorld.set_write_stop.Goals as go
 pub returns : goal.returns
 returns g c =
     record {
-      defined = c.set-write-stop.ensures.defined;
-      above = above_same (held_of c.args.self.now.held) _ _ c.set-write-stop.ensures.above;
-      stack = stacked_more (held_of c.args.self.now.held) _ (g.E.World.bottom c.set-write-stop.new.self) (g.E.World.above c.set-write-stop.new.self) c.set-write-stop.ensures.stack;
+      defined = c.set_write_stop.ensures.defined;
+      above = above_same (held_of c.args.self.now.held) _ _ c.set_write_stop.ensures.above;
+      stack = stacked_more (held_of c.args.self.now.held) _ (g.E.World.bottom c.set_write_stop.new.self) (g.E.World.above c.set_write_stop.new.self) c.set_write_stop.ensures.stack;
     }

@@ -15,5 +15,5 @@ front-push places part rest a b n k r m e l p =
 
 pub returns : goal.returns
 returns c =
-    front-push c.args.self.now.places c.push-placed.new.room _ c.args.self.now.ring _ (capacity_of c.args.self.now.capacity) (c.in-use-n.result - 0) _ _ (omega arith)
-    (omega (arith, length-take (c.in-use-n.result - 0) c.args.self.now.places)) c.push-placed.ensures
+    front-push c.args.self.now.places c.push-placed.new.room _ c.args.self.now.ring _ (capacity_of c.args.self.now.capacity) (c.in_use-n.result - 0) _ _ (omega arith)
+    (omega (arith, length-take (c.in_use-n.result - 0) c.args.self.now.places)) c.push-placed.ensures

@@ -6,4 +6,4 @@ pub returns-then-i-len : goal.returns-then-i-len
 returns-then-i-len c = ring_past c.args.room.now c.args.self.now.head c.args.self.now.count c.args.i (omega arith)
 
 pub returns : goal.returns
-returns c = ring-get c.args.room.now c.args.self.now.head c.args.self.now.count c.args.i _ _ (omega arith) c.place-of-at.ensures
+returns c = ring-get c.args.room.now c.args.self.now.head c.args.self.now.count c.args.i _ _ (omega arith) c.place_of-at.ensures
