@@ -1,10 +1,10 @@
 -- The law over whole runs.
-use Rattle.std.proofs.Common.{◌≡◌, ℕ, ◌+◌, ◌-◌, ◌<◌, ◌≤◌, max, Bool, true, false, cond, ◌&&◌, ◌||◌, eqb, ltb, ◌⊎◌, List, [], ◌∷◌, length, is_some, Some, None, Ok, Err, Option, Result, sym, refl, ap, ◌∙◌, subst, inl, inr, arith}
+use Rattle.std.proofs.Common.{◌≡◌, ℕ, ◌+◌, ◌-◌, ◌<◌, ◌≤◌, max, true, false, cond, ◌||◌, eqb, ltb, List, ◌∷◌, length, is_some, Some, None, Ok, Err, Option, Result, sym, refl, ap, ◌∙◌, subst, inl, inr, arith}
 use Rattle.std.proofs.lemmas.Bool.{cases_lt, or_left, or_right, and_from, eq-eqb, false≢true}
-use Rattle.object_map.specs.Map.{Map, map_of, creation, lawful, with_client, with_server, at_place, lookup, remove_at, removing, insert_at, inserting_at, insert_new, inserting_new, update_at, updating}
+use Rattle.object_map.specs.Map.{Map, map_of, creation, lawful, with_client, with_server, at_place, remove_at, insert_at, insert_new, update_at}
 use Rattle.object_map.specs.Number.{place}
 use Rattle.object_map.specs.Runs.{Call, find_call, remove_call, insert_at_call, insert_new_call, update_call, after, History, noted, using_now, Run, created, lends, calls, member, first, dense, Law, Stands, Begins}
-use Rattle.object_map.specs.Store.{Store, at, emptied, fill, insert, insert_free, first_free, rewrite, rewrite_slot}
+use Rattle.object_map.specs.Store.{Store, at, emptied, fill, insert_free, first_free, rewrite_slot}
 use Rattle.object_map.specs.declared.map.ObjectMap.{ObjectMap}
 use Rattle.object_map.specs.declared.number.Place.{Place}
 use Rattle.object_map.specs.declared.number.Place.TheVariants.{Client, Server}

@@ -1,5 +1,5 @@
 -- What the calls do to a map, in the words of a map: by number, and by how many slots are occupied.
-use Rattle.std.specs.Prelude.{◌≡◌, ℕ, ◌+◌, ◌<◌, ◌≤◌, true, cond, ◌≢◌, take, is_some, Some, None, Ok, Err, count_by, Option, Result}
+use Rattle.std.specs.Prelude.{◌≡◌, ℕ, ◌+◌, ◌<◌, ◌≤◌, true, cond, ◌≢◌, take, is_some, Some, None, Ok, Err, count_by, Result}
 use Rattle.std.specs.Option.{option_map}
 use Rattle.object_map.specs.Map.{Map, lookup}
 use Rattle.object_map.specs.Store.{Store}

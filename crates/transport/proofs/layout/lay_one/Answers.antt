@@ -20,14 +20,14 @@ module _ (n : ℕ) (room : List ℕ) where
     objects : a ≡ Object id → i ≡ raw id.number → ◌≡◌ {A = (Argument ObjectId × ℕ) × List ℕ} ((Object i, n), room) (lay_one n (given child (arg_of text a)) room)
     objects is e = ap (λ (x : ObjectId). ((Object x, n), room)) e ∙ alone (Object (raw id.number)) ∙ ap (λ (x : Argument ObjectId). lay_one n (given child (arg_of text x)) room) (sym is)
 
-    new_ids_lem : (m : ℕ) → a ≡ NewId id → i ≡ raw m → m ≡ cond (eqb id.number 0) child id.number → ◌≡◌ {A = (Argument ObjectId × ℕ) × List ℕ} ((NewId i, n), room) (lay_one n (given child (arg_of text a)) room)
-    new_ids_lem m is e k = ap (λ (x : ObjectId). ((NewId x, n), room)) (e ∙ ap raw k) ∙ alone (NewId (raw (cond (eqb id.number 0) child id.number))) ∙ ap (λ (x : Argument ObjectId). lay_one n (given child (arg_of text x)) room) (sym is)
+    new_id_lem : (m : ℕ) → a ≡ NewId id → i ≡ raw m → m ≡ cond (eqb id.number 0) child id.number → ◌≡◌ {A = (Argument ObjectId × ℕ) × List ℕ} ((NewId i, n), room) (lay_one n (given child (arg_of text a)) room)
+    new_id_lem m is e k = ap (λ (x : ObjectId). ((NewId x, n), room)) (e ∙ ap raw k) ∙ alone (NewId (raw (cond (eqb id.number 0) child id.number))) ∙ ap (λ (x : Argument ObjectId). lay_one n (given child (arg_of text x)) room) (sym is)
 
 pub returns-in-Object : goal.returns-in-Object
 returns-in-Object c = objects c.args.at c.args.room.now c.args.child c.args.text.now c.args.arg _ _ c.in-Object.is c.raw_handle.ensures
 
 pub returns-in-NewId : goal.returns-in-NewId
-returns-in-NewId c = new_ids_lem c.args.at c.args.room.now c.args.child c.args.text.now c.args.arg _ _ _ c.in-NewId.is c.raw_handle-in-NewId.ensures c.number_or.ensures
+returns-in-NewId c = new_id_lem c.args.at c.args.room.now c.args.child c.args.text.now c.args.arg _ _ _ c.in-NewId.is c.raw_handle-in-NewId.ensures c.number_or.ensures
 
 pub returns-in-None : goal.returns-in-None
 returns-in-None c = same c.args.at c.args.room.now c.args.child c.args.text.now _ _ _ (c.in-Str.is ∙ ap Str c.in-None.is) (ap Str c.in-None.is) (alone c.args.at _ _)
