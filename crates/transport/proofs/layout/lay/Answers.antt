@@ -2,8 +2,8 @@ use Rattle.std.proofs.Common.{arith}
 use Rattle.transport.proofs.Lays.{args_more, args_all, end_fits}
 use Rattle.transport.proofs.layout.lay.Goals as goal
 
-pub lay-one-arg-requires : goal.lay_one-arg-requires
-lay-one-arg-requires c =
+pub lay_one-arg-requires : goal.lay_one-arg-requires
+lay_one-arg-requires c =
     record { room = omega arith; at = end_fits c.args.args.now c.args.text.now c.args.child c.args.places.now c.args.room.now c.loop-i.i _ _ _ c.loop-i.invariant }
 
 pub loop-i-preserved : goal.loop-i-preserved
