@@ -1,25 +1,25 @@
 -- What holds of slots and account together, and the changes that keep it.
-use Rattle.std.proofs.Common.{◌≡◌, ℕ, ◌+◌, ◌-◌, ◌%◌, ◌^◌, ◌<◌, Bool, true, false, cond, ◌&&◌, ◌||◌, eqb, List, [], ◌∷◌, length, is_some, Some, None, Option, sym, refl, ap, ◌∙◌, subst, ap₂, inl, inr, mod-eq_of_lt, arith}
+use Rattle.std.proofs.Common.{◌≡◌, ℕ, ◌+◌, ◌-◌, ◌%◌, ◌^◌, ◌<◌, Bool, true, false, cond, ◌&&◌, ◌||◌, eqb, List, ◌∷◌, length, is_some, Some, None, Option, sym, refl, ap, ◌∙◌, subst, ap₂, inl, inr, mod-eq_of_lt, arith}
 use native.Mathlib.Nat.{mod-add-mod}
 use Rattle.std.proofs.lemmas.Bool.{cond_both, eq-eqb, ne_eqb, cases_eq, and_from, and_parts, ltb-true}
 use Rattle.std.specs.Option.{option_map}
 use Rattle.object_map.specs.Laws.{occupied}
 use Rattle.object_map.specs.Map.{Map, fits, lookup, lawful}
 use Rattle.object_map.specs.Runs.{member, first, dense}
-use Rattle.protocol.specs.Lookups.{null_id, display_id}
+use Rattle.protocol.specs.Lookups.{display_id}
 use Rattle.protocol.specs.declared.id.ObjectId.{ObjectId}
 use Rattle.transport.specs.Ends.{End}
 use Rattle.client.specs.Calls.{acknowledged}
 use Rattle.client.specs.Course.{opening}
 use Rattle.client.specs.Events.{vacated}
 use Rattle.client.specs.Law.{Given}
-use Rattle.client.specs.Ledger.{Tenancy, Ledger, tenant_in, holder, overs, numbers, amend, conclude, birth, Account, with_ledger, with_conn, with_given, with_hand, give, draw, bear}
+use Rattle.client.specs.Ledger.{Tenancy, Ledger, tenant_in, holder, overs, numbers, amend, conclude, Account, with_ledger, with_conn, with_given, give, draw, bear}
 use Rattle.client.specs.Runs.{created, display_object}
 use Rattle.client.specs.State.{Conn, handle_of, changed_at, emptied_at, server_marked, next_serial}
 use Rattle.client.specs.declared.connection.Phase.{Phase}
 use Rattle.client.specs.declared.connection.Phase.TheVariants.{Idle, Reading, Handed}
 use Rattle.client.specs.declared.object.Object.{Object}
-use Rattle.client.proofs.Slots.{reached, one, Poked, emptied_poked, changed_poked, unchanged, Placed, Opened, opened}
+use Rattle.client.proofs.Slots.{reached, one, Poked, emptied_poked, changed_poked, unchanged, Placed, opened}
 use Rattle.client.proofs.Tenants.{Unique, Descends, GivenOk, Keeps, amend_same, amend_other, amend_unique, amend_overs, amend_given, amend_descends, amend_numbers, amend_length, conclude_nobody, conclude_unmarked, conclude_same, conclude_other, conclude_unique, conclude_given, conclude_descends, conclude_numbers, conclude_length, conclude_overs, given_more, descends_up, holds, holds_none, member_sits}
 
 -- the display; only the server's mark may change

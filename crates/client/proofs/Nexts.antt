@@ -1,12 +1,11 @@
 -- How next takes the course that the history gives it.
-use Rattle.std.proofs.Common.{◌≡◌, ℕ, Bool, true, false, cond, ◌&&◌, eqb, ◌⊎◌, List, [], ◌∷◌, ◌++◌, length, Some, None, Ok, Err, Option, Result, sym, refl, ap, ◌∙◌, subst, ap₂, inl, inr, arith}
-use Rattle.std.proofs.lemmas.Bool.{cond_both, eqb-true, eqb-false, ne_eqb, and_left, and_right}
+use Rattle.std.proofs.Common.{◌≡◌, ℕ, Bool, true, false, cond, ◌&&◌, eqb, List, length, Some, None, Ok, Err, Option, sym, refl, ap, ◌∙◌, subst, ap₂}
+use Rattle.std.proofs.lemmas.Bool.{cond_both, eqb-false, ne_eqb, and_left, and_right}
 use Rattle.std.specs.List.{slice_get}
 use Rattle.object_map.specs.Map.{Map, lookup}
 use Rattle.protocol.specs.Descriptions.{Message}
 use Rattle.protocol.specs.Lookups.{event_at}
 use Rattle.protocol.specs.declared.argument.Argument.{Argument}
-use Rattle.protocol.specs.declared.error.ErrorInterface.{ErrorInterface}
 use Rattle.protocol.specs.declared.error.ProtocolReason.{ProtocolReason}
 use Rattle.protocol.specs.declared.error.ProtocolReason.TheVariants.{ErrorEvent, Malformed}
 use Rattle.protocol.specs.declared.error.WaylandError.{WaylandError}
@@ -16,21 +15,19 @@ use Rattle.protocol.specs.declared.refusal.Refusal.TheVariants.{BadToken, BadRoo
 use Rattle.transport.specs.Ends.{End, Waiting, first_of, take_of, first_or, first_in, fault, leaving, Grounded}
 use Rattle.transport.specs.Layout.{laid}
 use Rattle.transport.specs.Wire.{Arg, texts}
-use Rattle.client.specs.Calls.{Call, next, fillable, breach, number_in, interface_found, error_told, acknowledged, taken_into, told_into, passed_into, round_of, without, over_with, resting, from_display, passed_on, passed_to, passing, taken, described, sent_by, next_in, nexting, event_of, ended}
-use Rattle.client.specs.Course.{Course, given_some, known, in_round, rest_with, over_as, over_by, Reading', readable, Hearing, hear_all, error_heard, hear_display, handed, heard_by, frame_course, next_course, settled_in}
-use Rattle.client.specs.Events.{Walked, Passing, pass_all}
-use Rattle.client.specs.Law.{Given}
-use Rattle.client.specs.Ledger.{amend, conclude, holder, Account, with_ledger, for_tenancy}
+use Rattle.client.specs.Calls.{next, fillable, breach, number_in, interface_found, error_told, acknowledged, taken_into, told_into, passed_into, round_of, over_with, resting, from_display, passed_on, passed_to, passing, taken, described, sent_by, next_in, nexting, event_of, ended}
+use Rattle.client.specs.Course.{Course, given_some, known, in_round, rest_with, over_as, over_by, Reading', Hearing, hear_all, error_heard, hear_display, handed, heard_by, frame_course, next_course, settled_in}
+use Rattle.client.specs.Events.{Passing, pass_all}
+use Rattle.client.specs.Ledger.{amend, conclude, Account, with_ledger}
 use Rattle.client.specs.Requests.{Table}
-use Rattle.client.specs.State.{Conn, handle_of, server_marked, with_fault, with_serial, with_phase, with_conn, with_slots, Rooms, quiet, handed_out, over, Left, leave, refuse}
+use Rattle.client.specs.State.{handle_of, server_marked, with_fault, with_serial, with_phase, with_conn, with_slots, Rooms, quiet, handed_out, over, Left, leave}
 use Rattle.client.specs.declared.connection.Phase.{Phase}
 use Rattle.client.specs.declared.connection.Phase.TheVariants.{Idle, Reading, Handed}
 use Rattle.client.specs.declared.connection.Round.{Round}
 use Rattle.client.specs.declared.object.Object.{Object}
-use Rattle.client.proofs.Agreement.{Agreed, acknowledging, reconnecting, rightly, giving}
-use Rattle.client.proofs.Passings.{Same, ShownOk, Alike, alike, Both, all_passed, handing}
+use Rattle.client.proofs.Agreement.{Agreed, acknowledging, reconnecting}
+use Rattle.client.proofs.Passings.{Alike, alike, all_passed, handing}
 use Rattle.client.proofs.Steps.{moment_at, Came, Stepped, refusing, accepting}
-use Rattle.client.proofs.Tenants.{GivenOk}
 
 module _ (t : Table) (a : Account) (s : Map Object) (e : End) (gr : Grounded e) (g : Agreed s a) (rooms : Rooms) (n : ℕ) where
   -- over with a stored fault

@@ -26,7 +26,7 @@ use Rattle.client.specs.Course.{given_some, given_that, has, known, uses, uses_i
 use Rattle.client.specs.Law.{Made}
 use Rattle.client.specs.Ledger.{Tenancy, Ledger, lives_at, tenancy, amended, amend, conclude, birth, free_from, Account, with_ledger, with_conn, give, bear}
 use Rattle.client.specs.Requests.{Table, Request, Child, Sending, and_then, or_refuse, holds_or, object_in, nullable, creates, placeholders, child_for, child_of, free_number, placing, counting, sender_stands, described_as, child_stands, suits, usable, first, rest, object_stands, objects_stand, checked, frame_for}
-use Rattle.client.specs.State.{handle_of, notice_of, sent, client_marked, Look, bearing as bearing-of, resolved, changed_at, Moment, with_fault, with_serial, next_serial, none}
+use Rattle.client.specs.State.{handle_of, client_marked, Look, bearing as bearing-of, resolved, changed_at, Moment, with_fault, with_serial, next_serial, none}
 use Rattle.client.specs.declared.object.ChildSpec.{ChildSpec}
 use Rattle.client.specs.declared.object.Object.{Object}
 use Rattle.client.proofs.Agreement.{Agreed, display_as, amending, reconnecting, giving, bearing}

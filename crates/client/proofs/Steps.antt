@@ -1,6 +1,5 @@
 -- What it is for a call to take the course that the history gives it.
-use Rattle.std.proofs.Common.{◌≡◌, ℕ, Bool, true, false, cond, is_ok, Ok, Err, Option, Result, sym, refl, ap, ◌∙◌, subst, arith}
-use Rattle.std.proofs.lemmas.Bool.{cond-true, cond-false}
+use Rattle.std.proofs.Common.{◌≡◌, ℕ, Bool, true, false, cond, is_ok, Ok, sym, refl, ap, subst, arith}
 use Rattle.object_map.specs.Map.{Map}
 use Rattle.protocol.specs.declared.refusal.Refusal.{Refusal}
 use Rattle.transport.specs.Ends.{End}

@@ -1,6 +1,6 @@
 -- The law, from what slots and account have in common.
-use Rattle.std.proofs.Common.{◌≡◌, ℕ, ◌+◌, ◌^◌, ◌<◌, Bool, true, false, cond, not, ◌&&◌, ◌||◌, eqb, ltb, leb, List, [], ◌∷◌, length, is_some, is_ok, Some, None, Ok, Err, Option, Result, sym, refl, ap, ◌∙◌, subst, ap₂, inl, inr, arith}
-use Rattle.std.proofs.lemmas.Bool.{cond-true, cond-false, cases_Bool, cases_eq, eq-eqb, ne_eqb, eqb-true, and_parts, and_left, and_right, le-ltb}
+use Rattle.std.proofs.Common.{◌≡◌, ℕ, ◌^◌, ◌<◌, Bool, true, false, cond, not, ◌&&◌, ◌||◌, eqb, leb, [], ◌∷◌, length, is_some, is_ok, Some, None, Ok, Option, sym, refl, ap, ◌∙◌, subst, ap₂, inl, inr, arith}
+use Rattle.std.proofs.lemmas.Bool.{cond-true, cases_Bool, cases_eq, eq-eqb, ne_eqb, eqb-true, and_parts, and_left, and_right, le-ltb}
 use Rattle.object_map.specs.Map.{Map, fits, lookup}
 use Rattle.protocol.specs.Lookups.{same_object}
 use Rattle.protocol.specs.Words.{Sound}
@@ -8,22 +8,22 @@ use Rattle.protocol.specs.declared.id.ObjectId.{ObjectId}
 use Rattle.protocol.proofs.Handles as handles
 use Rattle.transport.specs.Ends.{End, Grounded}
 use Rattle.client.specs.Calls.{Call, prepare, cancel, read, resume, next, settle, send_request, destroy_object, get_data, set_data, info, flush, child_handle, answered, defined}
-use Rattle.client.specs.Course.{Course, has, known, asked, get_course, may, course, send_course, reckon}
-use Rattle.client.specs.Law.{Given, deleted, Law, LawOverRuns, Made, places, occasion, takes_delete, accepts, sort_of}
-use Rattle.client.specs.Ledger.{Tenancy, Ledger, tenant_in, holder, tenancy, lasts, Account}
+use Rattle.client.specs.Course.{has, asked, get_course, may, course, send_course, reckon}
+use Rattle.client.specs.Law.{Given, deleted, LawOverRuns, Made, places, occasion, sort_of}
+use Rattle.client.specs.Ledger.{Tenancy, Ledger, holder, tenancy, lasts, Account}
 use Rattle.client.specs.Requests.{Table, Request, Sending}
-use Rattle.client.specs.Runs.{History, creation, add, entry, Run, made, world, called}
-use Rattle.client.specs.State.{Conn, Moment, Left, Reply, sent, content, handle_of, bearing, resolved}
+use Rattle.client.specs.Runs.{History, add, entry, Run, made, world, called}
+use Rattle.client.specs.State.{Conn, Moment, sent, content, handle_of, bearing}
 use Rattle.client.specs.declared.object.Notice.{Notice}
 use Rattle.client.specs.declared.object.Object.{Object}
 use Rattle.client.proofs.Agreement.{Agreed, beginning}
 use Rattle.client.proofs.Balances as balances
-use Rattle.client.proofs.Follows.{Follows, left, follows}
+use Rattle.client.proofs.Follows.{Follows, follows}
 use Rattle.client.proofs.Nexts.{next_step}
 use Rattle.client.proofs.Sends as sends
 use Rattle.client.proofs.Simple.{prepare_step, cancel_step, read_step, resume_step, settle_step, destroy_step, get_step, set_step, info_step, flush_step}
 use Rattle.client.proofs.Steps.{moment_at, Came, Stepped}
-use Rattle.client.proofs.Tenants.{name_of, Unique, Descends, GivenOk, named, one_name, resolves, resolves_to, lasts_is, living, holding, named_tenancy, sitting}
+use Rattle.client.proofs.Tenants.{name_of, named, one_name, resolves, resolves_to, lasts_is, holding, sitting}
 
 -- every call
 step : (t : Table) (a : Account) (s : Map Object) (e : End) → Sound t → Grounded e → Agreed s a → (c : Call) → Stepped t a e c (answered t (moment_at a s e) c)

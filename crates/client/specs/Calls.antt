@@ -29,7 +29,6 @@ use Rattle.client.specs.declared.connection.Phase.TheVariants.{Idle, Reading, Ha
 use Rattle.client.specs.declared.connection.ReadIntent.{ReadIntent}
 use Rattle.client.specs.declared.connection.Round.{Round}
 use Rattle.client.specs.declared.connection.WaitingRead.{WaitingRead}
-use Rattle.client.specs.declared.object.Notice.{Notice}
 use Rattle.client.specs.declared.object.Object.{Object}
 
 -- the calls, each with what is its own: tokens, handles, arguments, and the rooms of next

@@ -21,16 +21,13 @@ use Rattle.transport.specs.Layout.{laid}
 use Rattle.transport.specs.Wire.{Arg, texts}
 use Rattle.client.specs.Calls.{Call, prepare, cancel, read, resume, next, settle, send_request, destroy_object, get_data, set_data, info, flush, fillable, is_idle, intent_of, round_of, waiting_of, one_less, fault_or_done, ended, breach, number_in, interface_found, taken_into, told_into, passed_into, event_of, counted, data_stands, child_handle}
 use Rattle.client.specs.Events.{Walked, walk, newborn, or_anonymous}
-use Rattle.client.specs.Ledger.{Tenancy, Ledger, tenant_in, holder, numbers, amend, conclude, free_from, Account, with_ledger, with_conn, with_given, with_hand, for_tenancy, give, draw, bear}
+use Rattle.client.specs.Ledger.{Ledger, tenant_in, holder, numbers, amend, conclude, free_from, Account, with_ledger, with_conn, with_given, with_hand, for_tenancy, give, draw, bear}
 use Rattle.client.specs.Requests.{Table, Request, Child, Sending, object_in, nullable, creates, placeholders, child_for, child_of, counting, suits, first, rest, frame_for}
-use Rattle.client.specs.Runs.{Entry, History, creation, add, opened, display_object}
+use Rattle.client.specs.Runs.{History, creation, add, opened, display_object}
 use Rattle.client.specs.State.{handle_of, notice_of, client_marked, server_marked, both_marked, with_data, Look, resolved, Conn, with_fault, with_reads, with_phase, woken, next_serial, Rooms, none, Reply, done, prepared, waits, round, faulted, quiet, handed_out, over, settled, sent, destroyed, content, informed}
-use Rattle.client.specs.declared.connection.Event.{Event}
 use Rattle.client.specs.declared.connection.HandedEvent.{HandedEvent}
 use Rattle.client.specs.declared.connection.Phase.{Phase}
 use Rattle.client.specs.declared.connection.Phase.TheVariants.{Idle, Reading, Handed}
-use Rattle.client.specs.declared.connection.WaitingRead.{WaitingRead}
-use Rattle.client.specs.declared.object.Notice.{Notice}
 use Rattle.client.specs.declared.object.Object.{Object}
 
 -- what follows from what is there; nothing from none

@@ -1,5 +1,5 @@
 -- Events: how the arguments of a frame that was taken become handles.
-use Rattle.std.specs.Prelude.{ℕ, Bool, true, false, cond, List, [], ◌∷◌, ◌++◌, Some, None, Ok, Err, Option, Result, ◌==◌, nat_lt}
+use Rattle.std.specs.Prelude.{ℕ, false, cond, List, [], ◌∷◌, ◌++◌, Some, None, Ok, Err, Option, Result, ◌==◌, nat_lt}
 use Rattle.object_map.specs.Map.{Map, lookup, insert_at}
 use Rattle.object_map.specs.Number.{place}
 use Rattle.object_map.specs.declared.refusal.Refusal.{Refusal}

@@ -1,8 +1,8 @@
 -- The law over whole runs.
-use Rattle.std.specs.Prelude.{◌≡◌, ℕ, ◌+◌, ◌-◌, ◌%◌, ◌^◌, ◌<◌, Bool, true, false, cond, not, ◌&&◌, ◌||◌, ◌⊎◌, List, [], ◌∷◌, ◌++◌, length, is_some, is_ok, Some, None, Ok, Err, Option, Result, ◌==◌, ◌≢◌, nat_eq, nat_le, nat_lt}
+use Rattle.std.specs.Prelude.{◌≡◌, ℕ, ◌+◌, ◌-◌, ◌%◌, ◌^◌, ◌<◌, Bool, true, false, cond, not, ◌&&◌, ◌||◌, ◌⊎◌, List, [], ◌∷◌, ◌++◌, length, is_some, is_ok, Some, None, Ok, Err, Option, ◌==◌, ◌≢◌, nat_eq, nat_le, nat_lt}
 use Rattle.std.specs.List.{slice_get}
 use Rattle.object_map.specs.Laws.{occupied}
-use Rattle.object_map.specs.Map.{Map, lookup}
+use Rattle.object_map.specs.Map.{lookup}
 use Rattle.protocol.specs.Descriptions.{Message}
 use Rattle.protocol.specs.Lookups.{request_at, same_object, null_id}
 use Rattle.protocol.specs.Words.{Sound}
@@ -12,13 +12,13 @@ use Rattle.protocol.specs.declared.error.WaylandError.{WaylandError}
 use Rattle.protocol.specs.declared.error.WaylandError.TheVariants.{Io, Protocol}
 use Rattle.protocol.specs.declared.id.ObjectId.{ObjectId}
 use Rattle.protocol.specs.declared.refusal.Refusal.{Refusal}
-use Rattle.transport.specs.Ends.{End, Waiting, first_of, take_of, sending, put_fault}
+use Rattle.transport.specs.Ends.{Waiting, first_of, take_of, sending, put_fault}
 use Rattle.transport.specs.Wire as wire
 use Rattle.client.specs.Calls.{Call, prepare, cancel, read, resume, next, settle, send_request, destroy_object, get_data, set_data, info, flush, rooms_of, number_in, defined}
 use Rattle.client.specs.Course.{given_some, given_that, has, known, may, course, reckon}
 use Rattle.client.specs.Ledger.{Tenancy, Ledger, tenant_in, tenancy, lasts, overs, free_from, Account}
 use Rattle.client.specs.Requests.{Table, Request, creates, child_for, frame_for}
-use Rattle.client.specs.Runs.{Entry, History, creation, add, entry, Run}
+use Rattle.client.specs.Runs.{History, creation, add, entry, Run}
 use Rattle.client.specs.State.{Moment, Left, bearing, resolved, sent, content, next_serial}
 use Rattle.client.specs.declared.object.ChildSpec.{ChildSpec}
 use Rattle.client.specs.declared.object.Notice.{Notice}

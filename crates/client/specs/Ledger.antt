@@ -1,7 +1,7 @@
 -- Tenancies: who held which number, reckoned without a look into the slots.
 use Rattle.std.specs.Prelude.{ℕ, zero, suc, ◌+◌, Bool, true, false, cond, not, ◌&&◌, List, [], ◌∷◌, map, length, is_some, Some, None, Option, ◌==◌}
 use Rattle.protocol.specs.declared.id.ObjectId.{ObjectId}
-use Rattle.client.specs.State.{Look, handle_of, server_marked, Conn, next_serial, with_serial}
+use Rattle.client.specs.State.{Look, Conn, next_serial, with_serial}
 use Rattle.client.specs.declared.object.Object.{Object}
 
 -- a tenancy: the time during which an object holds a number. It is known by its place in the order of births

@@ -1,6 +1,6 @@
 -- Whole runs: a connection's past from its creation on, call by call, with whatever the world did in between.
 use Rattle.std.specs.Prelude.{◌≡◌, ℕ, true, false, List, length, None, Option}
-use Rattle.object_map.specs.Map.{Map, map_of, insert_at, lawful}
+use Rattle.object_map.specs.Map.{map_of, insert_at, lawful}
 use Rattle.object_map.specs.Number.{place}
 use Rattle.object_map.specs.Store.{emptied}
 use Rattle.transport.specs.Ends.{End, Grounded}

@@ -1,5 +1,5 @@
 -- A connection, a moment of it, and what a call leaves.
-use Rattle.std.specs.Prelude.{ℕ, ◌+◌, ◌-◌, ◌%◌, ◌^◌, Bool, true, cond, ◌&&◌, List, [], Some, None, Ok, Err, Option, Result, ◌==◌}
+use Rattle.std.specs.Prelude.{ℕ, ◌+◌, ◌%◌, ◌^◌, Bool, true, cond, List, [], Some, None, Ok, Err, Option, Result, ◌==◌}
 use Rattle.object_map.specs.Map.{Map, map_of, lookup, remove_at, update_at}
 use Rattle.object_map.specs.Number.{place}
 use Rattle.protocol.specs.declared.argument.Argument.{Argument}

@@ -1,6 +1,6 @@
 -- A list of interfaces that breaks a rule is refused.
 use Rattle.std.proofs.Common.{◌≡◌, ℕ, ◌<◌, false, ◌⊎◌, List, length, is_some, IfSome, Option, sym, refl, ap, ◌∙◌, subst, inl, inr, arith}
-use Rattle.std.specs.List.{ContainsAt as Has, AllByRecursion as All}
+use Rattle.std.specs.List.{ContainsAt as Has, AllByRecursion}
 use Rattle.std.proofs.ByRecursion.{all-has}
 use Rattle.std.proofs.lemmas.Bool.{cases_Bool, cond-false, false≢true}
 use Rattle.protocol.specs.Descriptions.{Message, Description, described}
@@ -22,10 +22,10 @@ named : (t : List Description) (d : Description) → Sound t → Has t d → Sou
 named t d s h = all-has (λ x. SoundName x.name) t d s.names h
 
 request_sound : (t : List Description) (m : Message) → Sound t → RequestOf t m → SoundRequest (length t) m
-request_sound t m s r = all-has (SoundRequest (length t)) r.0.requests m (all-has (λ d. All (SoundRequest (length t)) d.requests) t r.0 s.requests r.1.0) r.1.1
+request_sound t m s r = all-has (SoundRequest (length t)) r.0.requests m (all-has (λ d. AllByRecursion (SoundRequest (length t)) d.requests) t r.0 s.requests r.1.0) r.1.1
 
 event_sound : (t : List Description) (m : Message) → Sound t → EventOf t m → SoundEvent (length t) m
-event_sound t m s r = all-has (SoundEvent (length t)) r.0.events m (all-has (λ d. All (SoundEvent (length t)) d.events) t r.0 s.events r.1.0) r.1.1
+event_sound t m s r = all-has (SoundEvent (length t)) r.0.events m (all-has (λ d. AllByRecursion (SoundEvent (length t)) d.events) t r.0 s.events r.1.0) r.1.1
 
 message_sound : (t : List Description) (m : Message) → Sound t → RequestOf t m ⊎ EventOf t m → SoundMessage (length t) m
 message_sound t m s (inl r) = (request_sound t m s r).message

@@ -1,4 +1,4 @@
-use Rattle.std.proofs.Common.{arith, rules}
+use Rattle.std.proofs.Common.{arith}
 use Rattle.panes.proofs.Texts.{passed, all_word, cut_word}
 use Rattle.panes.proofs.command.cut.Goals as goal
 use Rattle.panes.proofs.command.cut.Goals.{then-loop-end-test+else-line-end-ne32, else-loop-end-test}
