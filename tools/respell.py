@@ -3,7 +3,8 @@
 
 usage: python3 tools/respell.py      at the top of the repository, once, after the kit's port.py
 
-Turned: the antt files of specs/ and proofs/, and the clauses and imports of src/. Strings and the code's own names stay.
+Turned: the antt files of specs/ and proofs/, and the files of src/, whose code has none of the old names. Strings stay.
+Names that the kit's script turned by itself are not in the list.
 """
 
 import os
