@@ -63,7 +63,7 @@ some_both P None f n g = n
 some_both P (Some x) f n g = g x refl
 
 -- a free number
-free_is : (k n : ℕ) (look : Look) (m : ℕ) → free_from k n look ≡ Some m → (m < n + k) × (look m ≡ None)
+pub free_is : (k n : ℕ) (look : Look) (m : ℕ) → free_from k n look ≡ Some m → (m < n + k) × (look m ≡ None)
 free_is zero n look m e = let z : ◌≡◌ {A = ℕ} 0 1 = cc in absurd (omega arith)
 free_is (suc k) n look m e = go (free_is k (n + 1) look m) (look n) refl e
   where
@@ -141,7 +141,7 @@ Grew l l' = (l' ≡ l) ⊎ ((m : ℕ) × (o : Object) × (leb 0xFF00_0000 m ≡ 
 abbrev heard_ledger : Hearing → Ledger
 heard_ledger q = q.account.ledger
 
-onward_both : {A E : Type 0} (P : Hearing → Type 0) (r : Result A E × Hearing) (done : List A) (a : A) (more : List A) (go : Hearing → List A → Walked Hearing A E) → P r.1 → ((d : List A) → P (go r.1 d).state) → P (onward r done a more go).state
+pub onward_both : {A E : Type 0} (P : Hearing → Type 0) (r : Result A E × Hearing) (done : List A) (a : A) (more : List A) (go : Hearing → List A → Walked Hearing A E) → P r.1 → ((d : List A) → P (go r.1 d).state) → P (onward r done a more go).state
 onward_both P (Ok b, s) done a more go p f = f _
 onward_both P (Err e, s) done a more go p f = p
 
@@ -368,7 +368,7 @@ read_of t s o xs fs v = given_some v (λ b. read_by s o xs fs b (event_at t b.in
 abbrev deleted_if : Bool → Option (List Arg × Waiting) → Option ℕ
 deleted_if b v = given_that b (given_some v (λ k. Some (number_in (slice_get k.0 0))))
 
-heard_ledger_lem : (n : ℕ) (a : Account) (e : End) (rooms : Rooms) (f : Reading') (w : Walked Hearing (Argument ObjectId) ProtocolReason) (v : Option ProtocolReason) → (heard_by n a e rooms f w v).account.ledger ≡ heard_ledger w.state
+pub heard_ledger_lem : (n : ℕ) (a : Account) (e : End) (rooms : Rooms) (f : Reading') (w : Walked Hearing (Argument ObjectId) ProtocolReason) (v : Option ProtocolReason) → (heard_by n a e rooms f w v).account.ledger ≡ heard_ledger w.state
 heard_ledger_lem n a e rooms f w (Some r) = refl
 heard_ledger_lem n a e rooms f w None = cond_both f.receiver.client_destroyed _ _ (λ (c : Course). c.account.ledger ≡ heard_ledger w.state) (λ _. refl) (λ _. refl)
 

@@ -8,6 +8,8 @@ pub mod Reached
 pub mod Sends
 pub mod Simple
 pub mod Slots
+pub mod Standard
 pub mod Steps
 pub mod Tenants
+pub mod Wakes
 pub mod Whole

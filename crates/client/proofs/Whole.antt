@@ -121,7 +121,7 @@ module _ (t : Table) (h : History) (m : Moment) (so : Sound t) (gr : Grounded m.
   or_false false true = refl
   or_false false false = refl
 
-  becomes : (c : Call) (i : ℕ) (y : Tenancy) → tenancy i acc.ledger ≡ Some y → Follows i y (occasion m c (defined t m c) acc (then' c) y.number) (then' c).ledger
+  pub becomes : (c : Call) (i : ℕ) (y : Tenancy) → tenancy i acc.ledger ≡ Some y → Follows i y (occasion m c (defined t m c) acc (then' c) y.number) (then' c).ledger
   becomes c i y e = go (is_ok (defined t m c).answer) refl
     where
       go : (b : Bool) → is_ok (defined t m c).answer ≡ b → Follows i y (occasion_if b c y.number) (cond b (course t acc m.end c).account acc).ledger

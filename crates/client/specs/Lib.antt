@@ -7,4 +7,5 @@ pub mod Ledger
 pub mod Reached
 pub mod Requests
 pub mod Runs
+pub mod Standard
 pub mod State

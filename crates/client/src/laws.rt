@@ -3,6 +3,7 @@
 ghost use Rattle.client.specs.Cases.{WorkedCases};
 ghost use Rattle.client.specs.Law.{LawOverRuns};
 ghost use Rattle.client.specs.Reached.{Reused};
+ghost use Rattle.client.specs.Standard.{StandardOverRuns};
 
 /// The worked cases.
 pub fn worked_cases()
@@ -17,4 +18,9 @@ pub fn numbers_come_back()
 /// The law over whole runs: any calls in any order, any transport, whatever the world does in between.
 pub fn law_over_runs()
     ensures { LawOverRuns }
+{}
+
+/// What the Wayland protocol asks of objects' numbers and of errors, over whole runs.
+pub fn standard_over_runs()
+    ensures { StandardOverRuns }
 {}

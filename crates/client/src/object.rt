@@ -3,7 +3,7 @@
 use protocol::id::ObjectId;
 
 /// What a slot holds: an object of the connection.
-#[derive(Clone, Copy)]
+#[derive(Clone, Copy, PartialEq, Eq, Debug)]
 pub struct Object {
     pub(crate) interface: u16,
     pub(crate) version: u32,
@@ -25,7 +25,7 @@ pub struct Notice {
 }
 
 /// What a request asks its new object to be.
-#[derive(Clone, Copy)]
+#[derive(Clone, Copy, PartialEq, Eq, Debug)]
 pub struct ChildSpec {
     pub interface: u16,
     pub version: u32,
