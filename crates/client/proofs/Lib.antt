@@ -13,3 +13,4 @@ pub mod Steps
 pub mod Tenants
 pub mod Wakes
 pub mod Whole
+pub mod Wider

@@ -16,6 +16,7 @@ use Rattle.transport.specs.Layers.{queue, stacked}
 use Rattle.transport.specs.Lists.{fresh, end_of}
 use Rattle.transport.specs.Wire.{Message, message, uint, str, object, new_id}
 use Rattle.client.specs.Calls.{Call, prepare, cancel, read, resume, next, settle, send_request, destroy_object, get_data, info, breach, without, defined}
+use Rattle.client.specs.Requests.{Table}
 use Rattle.client.specs.Runs.{created}
 use Rattle.client.specs.State.{Moment, Rooms, Reply, done, prepared, waits, round, quiet, handed_out, over, settled, sent, destroyed, content, informed}
 use Rattle.client.specs.declared.connection.HandedEvent.{HandedEvent}
@@ -26,14 +27,21 @@ use Rattle.client.specs.declared.object.Notice.{Notice}
 use Rattle.client.specs.declared.object.Object.{Object}
 
 -- the moment after calls made in a row
-abbrev pub after : Moment → List Call → Moment
-after m [] = m
-after m (c ∷ cs) = after (defined core m c).moment cs
+abbrev pub after_by : Table → Moment → List Call → Moment
+after_by t m [] = m
+after_by t m (c ∷ cs) = after_by t (defined t m c).moment cs
 
 -- and their answers
+abbrev pub answers_by : Table → Moment → List Call → List (Result Reply Refusal)
+answers_by t m [] = []
+answers_by t m (c ∷ cs) = (defined t m c).answer ∷ answers_by t (defined t m c).moment cs
+
+-- over the core alone
+abbrev pub after : Moment → List Call → Moment
+after m cs = after_by core m cs
+
 abbrev pub answers : Moment → List Call → List (Result Reply Refusal)
-answers m [] = []
-answers m (c ∷ cs) = (defined core m c).answer ∷ answers (defined core m c).moment cs
+answers m cs = answers_by core m cs
 
 -- a frame comes to wait behind the others
 abbrev pub behind : Message → Waiting → Waiting

@@ -9,3 +9,4 @@ pub mod Requests
 pub mod Runs
 pub mod Standard
 pub mod State
+pub mod Wider

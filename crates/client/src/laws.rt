@@ -4,10 +4,12 @@ ghost use Rattle.client.specs.Cases.{WorkedCases};
 ghost use Rattle.client.specs.Law.{LawOverRuns};
 ghost use Rattle.client.specs.Reached.{Reused};
 ghost use Rattle.client.specs.Standard.{StandardOverRuns};
+ghost use Rattle.client.specs.Wider.{WiderCases};
 
-/// The worked cases.
+/// The worked cases, over the core alone and over a wider table.
 pub fn worked_cases()
-    ensures { WorkedCases }
+    ensures core { WorkedCases }
+    ensures wider { WiderCases }
 {}
 
 /// Runs exist in which a number is used again.
