@@ -4,5 +4,5 @@ use Rattle.client.specs.Wider.{WiderCases}
 
 pub wider_cases : WiderCases
 wider_cases =
-    ((refl, refl, refl), refl, refl, refl, (refl, refl, refl), (refl, refl, refl, refl, refl), (refl, refl, refl), (refl, refl, refl, refl),
+    (refl, (refl, refl, refl), refl, refl, refl, (refl, refl, refl), (refl, refl, refl, refl, refl), (refl, refl, refl), (refl, refl, refl, refl),
     (refl, refl), (refl, refl, refl), (refl, refl), refl, (refl, refl, refl), (refl, refl, refl, refl, refl, refl))

@@ -17,7 +17,7 @@ use Rattle.protocol.specs.declared.refusal.Refusal.TheVariants.{InvalidId, Unkno
 use Rattle.transport.specs.Ends.{fault}
 use Rattle.transport.specs.Layout.{raw}
 use Rattle.transport.specs.Lists.{fresh, end_of}
-use Rattle.transport.specs.Wire.{Message, message, str, object, new_id}
+use Rattle.transport.specs.Wire.{Message, message, uint, str, object, new_id}
 use Rattle.client.specs.Calls.{Call, prepare, cancel, read, resume, next, settle, send_request, destroy_object, get_data, set_data, info, flush, defined}
 use Rattle.client.specs.Cases.{after_by, answers_by, brought, connected, start, intent, open_round, waiting_read, handed_event, rooms, sync, callback, done_to, delete_id, error_on, taking, synced, narrow}
 use Rattle.client.specs.Requests.{Table}
@@ -69,6 +69,10 @@ bind = send_request (record { sender = registry_id; opcode = 0; args = Uint 1 �
 
 abbrev pub furnished : Moment
 furnished = after_by panels (connected (end_of (fresh 4 20))) (get_registry ∷ bind ∷ [])
+
+-- both are sent as asked, with the number that each got
+abbrev pub SentAsAsked : Type 0
+SentAsAsked = furnished.end.sent ≡ message 1 1 (new_id 2 ∷ []) ∷ message 2 0 (uint 1 ∷ str (Some (codes "panel")) ∷ uint 3 ∷ new_id 3 ∷ []) ∷ []
 
 -- the first request of the panel: the placeholder, a panel, a part, the data number, and what the child is to be
 abbrev pub add : ObjectId → ObjectId → ObjectId → ℕ → Option ChildSpec → Call
@@ -248,5 +252,5 @@ FaultsTold =
 
 abbrev pub WiderCases : Type 0
 WiderCases =
-    AddsPart × ObjectsRefused × ChildrenRefused × RefusedInOrder × PartGrows × NumbersRefused × ArgumentsPassed × ArgumentsFail
+    SentAsAsked × AddsPart × ObjectsRefused × ChildrenRefused × RefusedInOrder × PartGrows × NumbersRefused × ArgumentsPassed × ArgumentsFail
     × NoticeAsHanded × BornDestroyed × ReadsInTurn × RoomsTooSmall × CountersEnd × FaultsTold
