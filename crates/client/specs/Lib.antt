@@ -1,5 +1,6 @@
 pub mod Calls
 pub mod Cases
+pub mod Coded
 pub mod Course
 pub mod Events
 pub mod Law

@@ -84,10 +84,14 @@ pub record Moment : Type 0 where
   pub slots : Map Object
   pub end : End
 
+-- what a connection in the code says
+abbrev pub conn_of : Connection → Conn
+conn_of c = record { number = c.number; last_serial = c.last_serial; fault = c.last_error; reads = c.prepared_reads; read_serial = c.read_serial; phase = c.phase }
+
 -- what a connection in the code, the lent slot rooms and a transport come to
 abbrev pub moment_of : Connection → List (Option Object) → List (Option Object) → End → Moment
 moment_of c client server e = record {
-  conn = record { number = c.number; last_serial = c.last_serial; fault = c.last_error; reads = c.prepared_reads; read_serial = c.read_serial; phase = c.phase };
+  conn = conn_of c;
   slots = map_of c.map client server;
   end = e;
 }

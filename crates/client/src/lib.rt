@@ -4,3 +4,4 @@
 pub mod connection;
 pub mod laws;
 pub mod object;
+mod reads;

@@ -1,0 +1,38 @@
+-- What a call in the code comes to, in the words of the definitions.
+use Rattle.std.specs.Prelude.{◌≡◌, Ok, Err, Result}
+use Rattle.protocol.specs.declared.refusal.Refusal.{Refusal}
+use Rattle.client.specs.State.{Conn, conn_of, Moment, Rooms, Reply, done, waits, round, faulted, Left}
+use Rattle.client.specs.declared.connection.Connection.{Connection}
+use Rattle.client.specs.declared.reads.ReadAnswer.{ReadAnswer}
+use Rattle.client.specs.declared.reads.ReadAnswer.TheVariants.{Waits, Round as OpenRound, Fault}
+use Rattle.client.specs.declared.reads.ResumeAnswer.{ResumeAnswer}
+use Rattle.client.specs.declared.reads.ResumeAnswer.TheVariants.{Waits as StillWaits, Over, Fault as ResumeFault}
+
+-- an answer of the code's as a reply
+abbrev pub replied : {A : Type 0} → (A → Reply) → Result A Refusal → Result Reply Refusal
+replied f (Ok x) = Ok (f x)
+replied f (Err e) = Err e
+
+-- the same where a refusal gives a token back
+abbrev pub replied_with : {A B : Type 0} → (A → Reply) → Result A (Refusal × B) → Result Reply Refusal
+replied_with f (Ok x) = Ok (f x)
+replied_with f (Err p) = Err p.0
+
+-- this is what is left
+abbrev pub Leaves : Left → Result Reply Refusal → Moment → Rooms → Type 0
+Leaves x a m r = x ≡ record { answer = a; moment = m; rooms = r }
+
+-- the answers of read and resume
+abbrev pub read_reply : ReadAnswer → Reply
+read_reply (Waits w) = waits w
+read_reply (OpenRound r) = round r
+read_reply (Fault f) = faulted f
+
+abbrev pub resume_reply : ResumeAnswer → Reply
+resume_reply (StillWaits w) = waits w
+resume_reply Over = done
+resume_reply (ResumeFault f) = faulted f
+
+-- the connection alone becomes this: its map stays
+abbrev pub Becomes : Connection → Conn → Connection → Type 0
+Becomes c k c' = (conn_of c' ≡ k) × (c'.map ≡ c.map)
