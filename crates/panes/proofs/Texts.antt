@@ -1,9 +1,9 @@
 -- Words and numbers, as a loop over the bytes comes to them.
-use Rattle.std.proofs.Common.{◌≡◌, ℕ, ◌+◌, ◌-◌, ◌<◌, ◌≤◌, min, not, List, [], ◌∷◌, length, get_or, take, drop, Some, fold, sym, refl, ap, ◌∙◌, inl, inr, arith}
+use Rattle.std.proofs.Common.{◌≡◌, ℕ, ◌+◌, ◌-◌, ◌<◌, ◌≤◌, not, List, [], ◌∷◌, length, get_or, take, drop, Some, fold, sym, refl, ap, ◌∙◌, arith}
 use Rattle.std.specs.List.{prefix_len}
 use Rattle.std.proofs.lemmas.List.{take_all, drop_all, take_rest}
 use Rattle.std.proofs.lemmas.List.Sums.{prefix_len-drop_yes, prefix_len-drop_no, prefix_len-drop_all}
-use Rattle.std.proofs.lemmas.Bool.{cases_lt, eq-eqb, ne_eqb}
+use Rattle.std.proofs.lemmas.Bool.{eq-eqb, ne_eqb}
 use Rattle.panes.specs.Lines.{in_word, word, rest, pushed, number_of}
 
 pub passed : (line : List ℕ) (i : ℕ) → i < length line → (get_or line i 0 ≡ 32 → ⊥) → prefix_len in_word (drop i line) ≡ 1 + prefix_len in_word (drop (i + 1) line)
@@ -26,11 +26,3 @@ cut_word line i h space e =
 pub all_digits : (text : List ℕ) → (length text ≡ 0 → ⊥) → number_of text ≡ fold pushed (Some 0) text
 all_digits [] some = absurd (some refl)
 all_digits (b ∷ bs) some = refl
-
--- as many of a list as it has
-pub take_within : {X : Type 0} (i n : ℕ) (xs : List X) → i ≡ min n (length xs) → take i xs ≡ take n xs
-take_within i n xs e =
-    elim (cases_lt (length xs) n) [
-      | inl l ↦ take_all i xs (omega arith) ∙ sym (take_all n xs (omega arith))
-      | inr le ↦ let same : i ≡ n = omega arith in ap (λ k. take k xs) same
-    ]
