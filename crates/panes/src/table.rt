@@ -1,10 +1,11 @@
 //! The pane table at work: a command changes it and has an answer.
 
-ghost use Rattle.std.specs.Prelude.{◌≡◌, []};
+ghost use Rattle.std.specs.Prelude.{◌≡◌, Some};
 ghost use Rattle.object_map.specs.Laws.{occupied_in};
 ghost use Rattle.object_map.specs.Map.{finding, inserting_new, updating};
 ghost use Rattle.panes.specs.Table.{begun, opened, shown, resized, closed, applied};
 ghost use Rattle.panes.specs.Ledger.{Told, Begun};
+ghost use Rattle.panes.specs.Shown.{answer_text};
 
 use super::command::Command;
 use super::pane::Pane;
@@ -118,6 +119,8 @@ impl<'a> PaneTable<'a> {
 }
 
 impl fmt::Display for Answer {
+    ghost output = { λ a. Some (answer_text a) };
+
     fn fmt<W: fmt::Write>(&self, f: &mut fmt::Formatter<W>) -> fmt::Result {
         match *self {
             Answer::Opened(number, Pane { width, height }) => write!(
