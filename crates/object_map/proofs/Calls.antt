@@ -74,12 +74,6 @@ rewritten {R} f n i x m m' s foc u l e =
       as_many = omega (arith, foc.counts, w');
     }
 
-rooms_vacant : {P : Type 0} → Rooms ≡ Vacant → P
-rooms_vacant e = let z : ◌≡◌ {A = ℕ} 0 1 = cc in absurd (omega arith)
-
-rooms_full : {P : Type 0} → Rooms ≡ ClientFull → P
-rooms_full e = let z : ◌≡◌ {A = ℕ} 0 1 = cc in absurd (omega arith)
-
 -- an insertion at a place: accepted with all that it asks, or refused with the store as it was
 pub insert_cases : {R : Type 0} (r : R) (i : ℕ) (s : Store R) → ((insert r i s ≡ (Ok tt, fill r i s)) × (i ≤ s.used) × (i < length s.slots) × (at i s ≡ None)) ⊎ ((e : Refusal) × (insert r i s ≡ (Err e, s)))
 insert_cases r i s =
@@ -153,7 +147,7 @@ insert_law : {R : Type 0} (n : ℕ) (r : R) (m : Map R) → Inserts n r m (inser
 insert_law n r m = by_fit m (insert_at (place n) r m) (Inserts n r m) (λ _. insert_place n (place n) r m refl) refl
 
 update_law : {R : Type 0} (f : R → R) (n : ℕ) (m : Map R) → Updates f n m (updating f n m).0 (updating f n m).1
-update_law f n m = by_fit m (update_at f (place n) m) (Updates f n m) (λ _. update_place f n (place n) m refl) (refl, λ e. rooms_vacant e)
+update_law f n m = by_fit m (update_at f (place n) m) (Updates f n m) (λ _. update_place f n (place n) m refl) (refl, λ e. absurd (cc e))
 
 remove_law : {R : Type 0} (n : ℕ) (m : Map R) → Removes n m (removing n m).0 (removing n m).1
 remove_law n m = by_fit m (Ok tt, remove_at (place n) m) (Removes n m) (λ _. remove_place n (place n) m refl) refl
@@ -183,7 +177,7 @@ new_in {R} r m fit few =
     ]
 
 insert_new_law : {R : Type 0} (r : R) (m : Map R) → m.client_places < 2 ^ 16 → InsertsNew r m (inserting_new r m).0 (inserting_new r m).1
-insert_new_law r m few = by_fit m (insert_new m (insert_free r m.client)) (InsertsNew r m) (λ fit. new_in r m fit few) (refl, λ e. rooms_full e)
+insert_new_law r m few = by_fit m (insert_new m (insert_free r m.client)) (InsertsNew r m) (λ fit. new_in r m fit few) (refl, λ e. absurd (cc e))
 
 -- the same of what a call answered and left
 pub inserts : {R : Type 0} (n : ℕ) (r : R) (m m' : Map R) (a : Result (Unit {0}) Refusal) → (a, m') ≡ inserting_at n r m → Inserts n r m a m'

@@ -6,5 +6,5 @@
 
 pub mod map;
 pub mod number;
-pub mod range;
+mod range;
 pub mod refusal;

@@ -8,7 +8,7 @@ use crate::refusal::Refusal;
 
 /// What the map remembers of a range between calls.
 #[derive(Clone, Copy, PartialEq, Eq, Debug)]
-pub struct Range {
+pub(crate) struct Range {
     /// How many places the room had at creation.
     places: u16,
     /// How many of them, from the start, have been in use.
