@@ -48,7 +48,7 @@ child_decides None (Some j) = (λ e. absurd (false≢true e), λ e. ap is_some e
 child_decides (Some i) None = (λ e. absurd (false≢true e), λ e. sym (ap is_some e))
 child_decides (Some i) (Some j) = (λ e. ap (λ (n : ℕ). Some n) (eqb-true i j e), λ e. eq-eqb i j (cc))
 
-alike_decides : {X : Type 0} (p : X → X → Bool) → ((x y : X) → Decides (p x y) (x ≡ y)) → (xs ys : List X) → Decides (alike p xs ys) (xs ≡ ys)
+pub alike_decides : {X : Type 0} (p : X → X → Bool) → ((x y : X) → Decides (p x y) (x ≡ y)) → (xs ys : List X) → Decides (alike p xs ys) (xs ≡ ys)
 alike_decides p d [] [] = (λ _. refl, λ _. refl)
 alike_decides p d [] (y ∷ ys) = (λ e. absurd (false≢true e), λ e. let z : ◌≡◌ {A = ℕ} 0 1 = cc in absurd (omega arith))
 alike_decides p d (x ∷ xs) [] = (λ e. absurd (false≢true e), λ e. let z : ◌≡◌ {A = ℕ} 0 1 = cc in absurd (omega arith))
@@ -61,7 +61,7 @@ message_decides a b =
     (λ e. (ap (λ (m : Message). m.destructor) e, (ap (λ (m : Message). m.child) e, (ap (λ (m : Message). m.args) e, ap (λ (m : Message). m.signature) e))))
     (Decides-and _ _ (flag_decides a.destructor b.destructor) (Decides-and _ _ (child_decides a.child b.child) (Decides-and _ _ (bytes_eq-Decides a.args b.args) (alike_decides identical identical_decides a.signature b.signature))))
 
-description_decides : (a b : Description) → Decides (same_description a b) (a ≡ b)
+pub description_decides : (a b : Description) → Decides (same_description a b) (a ≡ b)
 description_decides a b =
     Decides-like _
     (λ h i. record { name = h.0 i; requests = h.1.0 i; events = h.1.1 i })

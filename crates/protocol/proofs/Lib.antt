@@ -1,8 +1,8 @@
 pub mod CoreFound
 pub mod Damage
 pub mod Decisions
+pub mod Equals
 pub mod Finds
 pub mod Handles
 pub mod Pairs
-pub mod Scans
 pub mod Totals

@@ -7,7 +7,7 @@ ghost use Rattle.protocol.specs.declared.error.WaylandError.TheVariants.{Io as I
 use std::fmt;
 
 /// A fault of the transport: the layer that it comes from, and a code of the system's.
-#[derive(Clone, Copy)]
+#[derive(Clone, Copy, Debug, PartialEq, Eq)]
 pub struct TransportFault {
     pub layer: u32,
     pub code: u32,
@@ -23,7 +23,7 @@ impl TransportFault {
 }
 
 /// What broke the protocol.
-#[derive(Clone, Copy)]
+#[derive(Clone, Copy, Debug, PartialEq, Eq)]
 pub enum ProtocolReason {
     /// The server sent an `error` event with a text of this length.
     ErrorEvent {
@@ -70,7 +70,7 @@ impl ProtocolReason {
 }
 
 /// The interface of the object that an error is about.
-#[derive(Clone, Copy)]
+#[derive(Clone, Copy, Debug, PartialEq, Eq)]
 pub enum ErrorInterface {
     /// The error is about no object.
     Empty,
@@ -81,7 +81,7 @@ pub enum ErrorInterface {
 }
 
 /// The server or the client broke the protocol.
-#[derive(Clone, Copy)]
+#[derive(Clone, Copy, Debug, PartialEq, Eq)]
 pub struct ProtocolError {
     pub code: u32,
     pub object_id: u32,
@@ -90,7 +90,7 @@ pub struct ProtocolError {
 }
 
 /// A fault of a connection.
-#[derive(Clone, Copy)]
+#[derive(Clone, Copy, Debug, PartialEq, Eq)]
 pub enum WaylandError {
     Io(TransportFault),
     Protocol(ProtocolError),
@@ -189,3 +189,9 @@ impl fmt::Display for WaylandError {
         }
     }
 }
+
+impl std::error::Error for TransportFault {}
+
+impl std::error::Error for ProtocolError {}
+
+impl std::error::Error for WaylandError {}
