@@ -4,5 +4,6 @@ pub mod Decisions
 pub mod Equals
 pub mod Finds
 pub mod Handles
+pub mod Names
 pub mod Pairs
 pub mod Totals

@@ -51,7 +51,8 @@ pub struct Span {
 }
 
 /// An argument. A string or an array lies in the text room that goes with it.
-#[derive(Clone, Copy)]
+// No `==`: two spans tell nothing of two texts, and handles are compared in a table.
+#[derive(Clone, Copy, Debug)]
 pub enum Argument<Id> {
     Int(i32),
     Uint(u32),

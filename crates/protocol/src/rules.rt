@@ -104,6 +104,7 @@ impl MessageDesc<'_> {
 }
 
 /// A name has 1 to 64 bytes, and none of them is zero.
+#[tactic(auto, using(crate::proofs::Names::none_zero))]
 fn name_fits(name: &[u8]) -> bool
     ensures { result ≡ name_fits name.now }
 {
