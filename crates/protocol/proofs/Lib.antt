@@ -6,4 +6,5 @@ pub mod Finds
 pub mod Handles
 pub mod Names
 pub mod Pairs
+pub mod Scans
 pub mod Totals
