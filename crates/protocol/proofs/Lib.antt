@@ -2,7 +2,6 @@ pub mod CoreFound
 pub mod Damage
 pub mod Decisions
 pub mod Equals
-pub mod Finds
 pub mod Handles
 pub mod Names
 pub mod Pairs

@@ -137,7 +137,7 @@ impl Interface<'_> {
 fn table_sized(interfaces: &[Interface<'_>]) -> bool
     ensures { result ≡ sized (described interfaces.now) }
 {
-    interfaces.len() >= 4 && interfaces.len() <= 256
+    (4..=256).contains(&interfaces.len())
 }
 
 /// There are at most 4,096 messages in all.
