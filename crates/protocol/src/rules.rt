@@ -108,7 +108,7 @@ impl MessageDesc<'_> {
 fn name_fits(name: &[u8]) -> bool
     ensures { result ≡ name_fits name.now }
 {
-    !name.is_empty() && name.len() <= 64 && !name.contains(&0)
+    (1..=64).contains(&name.len()) && !name.contains(&0)
 }
 
 impl Interface<'_> {
