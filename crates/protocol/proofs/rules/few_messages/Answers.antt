@@ -1,7 +1,5 @@
-use Rattle.std.proofs.Common.{rules, tests, arith, ◌≡◌, length}
+use Rattle.std.proofs.Common.{rules, tests}
 use Rattle.std.proofs.lemmas.Iterator.{YieldsList-from_slice}
-use Rattle.std.proofs.lemmas.List.{length-map}
-use Rattle.protocol.specs.Descriptions.{message_of}
 use Rattle.protocol.proofs.Totals.{few_from_fold}
 use Rattle.protocol.proofs.rules.few_messages.Goals as goal
 
