@@ -1,14 +1,16 @@
 -- The tests of descriptions decide what they are to say.
 use Rattle.std.proofs.Common.{◌≡◌, ℕ, ◌<◌, ◌≤◌, Bool, true, false, ◌&&◌, ◌||◌, eqb, leb, List, [], ◌∷◌, length, get_or, take, is_some, IfSome, All, Some, None, Decides, sum_by, Option, sym, refl, ap, ◌∙◌, inl, inr, arith}
 use Rattle.std.proofs.lemmas.List.Elements.{All-weaker}
+use Rattle.std.specs.Cmp.{booleans_Decides}
 use Rattle.std.specs.Cmp.Lexicographic.{pointwise_decides}
+use Rattle.std.specs.Option.{option_eq}
 use Rattle.std.proofs.lemmas.Slice.Eq.{bytes_eq-Decides}
 use Rattle.std.proofs.lemmas.Bool.{false≢true, eqb-true, eq-eqb, ne_eqb, leb-true, le-leb, or_left, or_right, cases_eq}
 use Rattle.std.proofs.lemmas.Bool.Decides.{Decides-by_and, Decides-and, Decides-like, Decides-eqb, Decides-not, Decides-ltb}
 use Rattle.protocol.specs.Core.{core}
 use Rattle.protocol.specs.Descriptions.{Message, Description}
-use Rattle.protocol.specs.Equal.{exact_number, identical, same_flag, same_child, same_message, same_description}
-use Rattle.protocol.specs.Pairwise.{all, alike}
+use Rattle.protocol.specs.Equal.{exact_number, identical, same_message, same_description}
+use Rattle.protocol.specs.Pairwise.{all}
 use Rattle.protocol.specs.Rules.{nonzero, is_below, child_inside, name_fits, new_ids, objects, request_fits, event_fits, interface_fits, message_count, well_formed}
 use Rattle.protocol.specs.Words.{SoundName, SoundRequest, SoundEvent, Sound}
 use Rattle.protocol.specs.declared.argument.AllowNull.TheVariants.{Yes, No}
@@ -36,34 +38,25 @@ identical_decides : (a b : ArgumentType) → Decides (identical a b) (a ≡ b)
 identical_decides a b =
     (λ e. sym (told a) ∙ (ap (λ (n : ℕ). get_or kinds n Int) (eqb-true (exact_number a) (exact_number b) e) ∙ told b), λ e. eq-eqb (exact_number a) (exact_number b) (ap exact_number e))
 
-flag_decides : (a b : Bool) → Decides (same_flag a b) (a ≡ b)
-flag_decides true true = (λ _. refl, λ _. refl)
-flag_decides true false = (sym, sym)
-flag_decides false true = (λ e. e, λ e. e)
-flag_decides false false = (λ _. refl, λ _. refl)
-
-child_decides : (a b : Option ℕ) → Decides (same_child a b) (a ≡ b)
+child_decides : (a b : Option ℕ) → Decides (option_eq eqb a b) (a ≡ b)
 child_decides None None = (λ _. refl, λ _. refl)
 child_decides None (Some j) = (λ e. absurd (false≢true e), λ e. ap is_some e)
 child_decides (Some i) None = (λ e. absurd (false≢true e), λ e. sym (ap is_some e))
 child_decides (Some i) (Some j) = (λ e. ap (λ (n : ℕ). Some n) (eqb-true i j e), λ e. eq-eqb i j (cc))
 
-pub alike_decides : {X : Type 0} (p : X → X → Bool) → ((x y : X) → Decides (p x y) (x ≡ y)) → (xs ys : List X) → Decides (alike p xs ys) (xs ≡ ys)
-alike_decides p d = pointwise_decides d
-
 message_decides : (a b : Message) → Decides (same_message a b) (a ≡ b)
 message_decides a b =
     Decides-like _
-    (λ h i. record { signature = h.1.1.1 i; destructor = h.0 i; child = h.1.0 i; args = h.1.1.0 i })
-    (λ e. (ap (λ (m : Message). m.destructor) e, (ap (λ (m : Message). m.child) e, (ap (λ (m : Message). m.args) e, ap (λ (m : Message). m.signature) e))))
-    (Decides-and _ _ (flag_decides a.destructor b.destructor) (Decides-and _ _ (child_decides a.child b.child) (Decides-and _ _ (bytes_eq-Decides a.args b.args) (alike_decides identical identical_decides a.signature b.signature))))
+    (λ h i. record { signature = h.0 i; destructor = h.1.0 i; child = h.1.1.0 i; args = h.1.1.1 i })
+    (λ e. (ap (λ (m : Message). m.signature) e, (ap (λ (m : Message). m.destructor) e, (ap (λ (m : Message). m.child) e, ap (λ (m : Message). m.args) e))))
+    (Decides-and _ _ (pointwise_decides identical_decides a.signature b.signature) (Decides-and _ _ (booleans_Decides a.destructor b.destructor) (Decides-and _ _ (child_decides a.child b.child) (bytes_eq-Decides a.args b.args))))
 
 pub description_decides : (a b : Description) → Decides (same_description a b) (a ≡ b)
 description_decides a b =
     Decides-like _
     (λ h i. record { name = h.0 i; requests = h.1.0 i; events = h.1.1 i })
     (λ e. (ap (λ (d : Description). d.name) e, (ap (λ (d : Description). d.requests) e, ap (λ (d : Description). d.events) e)))
-    (Decides-and _ _ (bytes_eq-Decides a.name b.name) (Decides-and _ _ (alike_decides same_message message_decides a.requests b.requests) (alike_decides same_message message_decides a.events b.events)))
+    (Decides-and _ _ (bytes_eq-Decides a.name b.name) (Decides-and _ _ (pointwise_decides message_decides a.requests b.requests) (pointwise_decides message_decides a.events b.events)))
 
 leb_decides : (a b : ℕ) → Decides (leb a b) (a ≤ b)
 leb_decides a b = (leb-true a b, le-leb a b)
@@ -131,4 +124,4 @@ sound_decides t =
       begins = h.1.1.1;
     })
     (λ s. ((s.least, s.most), (s.messages, (all_three (λ d. SoundName d.name) (λ d. All (SoundRequest (length t)) d.requests) (λ d. All (SoundEvent (length t)) d.events) t s.names s.requests s.events, s.begins))))
-    (Decides-and _ _ (Decides-and _ _ (leb_decides 4 (length t)) (leb_decides (length t) 256)) (Decides-and _ _ (leb_decides (sum_by message_count t) 4096) (Decides-and _ _ (all_decides (interface_fits (length t)) (SoundInterface (length t)) (interface_decides (length t)) t) (alike_decides same_description description_decides (take 4 t) core))))
+    (Decides-and _ _ (Decides-and _ _ (leb_decides 4 (length t)) (leb_decides (length t) 256)) (Decides-and _ _ (leb_decides (sum_by message_count t) 4096) (Decides-and _ _ (all_decides (interface_fits (length t)) (SoundInterface (length t)) (interface_decides (length t)) t) (pointwise_decides description_decides (take 4 t) core))))
