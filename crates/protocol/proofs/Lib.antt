@@ -1,3 +1,4 @@
+pub mod Chains
 pub mod CoreFound
 pub mod Damage
 pub mod Decisions
