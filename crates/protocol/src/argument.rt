@@ -29,17 +29,12 @@ impl ArgumentType {
     pub fn same_type(self, other: ArgumentType) -> bool
         ensures { result ≡ same_type self other }
     {
-        matches!(
-            (self, other),
-            (ArgumentType::Int, ArgumentType::Int)
-                | (ArgumentType::Uint, ArgumentType::Uint)
-                | (ArgumentType::Fixed, ArgumentType::Fixed)
-                | (ArgumentType::Str(_), ArgumentType::Str(_))
-                | (ArgumentType::Object(_), ArgumentType::Object(_))
-                | (ArgumentType::NewId, ArgumentType::NewId)
-                | (ArgumentType::Array, ArgumentType::Array)
-                | (ArgumentType::Fd, ArgumentType::Fd)
-        )
+        self == other
+            || matches!(
+                (self, other),
+                (ArgumentType::Str(_), ArgumentType::Str(_))
+                    | (ArgumentType::Object(_), ArgumentType::Object(_))
+            )
     }
 }
 

@@ -16,9 +16,9 @@ pub returns-then-all : goal.returns-then-all
 returns-then-all c =
     elim c.if-few_messages.branch [
       | then-few_messages w ↦
-        let is = c.args.interfaces.now in
-        let k = counted _ is (all_said description_of (interface_fits (length is)) is w.iter.ensures.rest w.all.ensures.ran (λ x b q k. search (rules, tests))) in
-        elim c.if-table_sized.branch [ then-table_sized v ↦ search (rules, k) | else-table_sized v ↦ search rules ]
+          let is = c.args.interfaces.now in
+          let k = counted _ is (all_said description_of (interface_fits (length is)) is w.iter.ensures.rest w.all.ensures.ran (λ x b q k. search (rules, tests))) in
+          elim c.if-table_sized.branch [ then-table_sized v ↦ search (rules, k) | else-table_sized v ↦ search rules ]
       | else-few_messages w ↦ search rules
     ]
 
@@ -26,8 +26,8 @@ pub returns-else-all : goal.returns-else-all
 returns-else-all c =
     elim c.if-few_messages.branch [
       | then-few_messages w ↦
-        let is = c.args.interfaces.now in
-        let k = counted _ is (all_said description_of (interface_fits (length is)) is w.iter.ensures.rest w.all.ensures.ran (λ x b q k. search (rules, tests))) in
-        elim c.if-table_sized.branch [ then-table_sized v ↦ grind (arith, k) | else-table_sized v ↦ grind arith ]
+          let is = c.args.interfaces.now in
+          let k = counted _ is (all_said description_of (interface_fits (length is)) is w.iter.ensures.rest w.all.ensures.ran (λ x b q k. search (rules, tests))) in
+          elim c.if-table_sized.branch [ then-table_sized v ↦ grind (arith, k) | else-table_sized v ↦ grind arith ]
       | else-few_messages w ↦ elim c.if-table_sized.branch [ then-table_sized v ↦ grind arith | else-table_sized v ↦ grind arith ]
     ]

@@ -9,11 +9,11 @@ pub returns-then-all : goal.returns-then-all
 returns-then-all c =
     elim c.if-name_fits.branch [
       | then-name_fits w ↦
-        search (
-          rules,
-          all_said message_of (request_fits c.args.count) c.args.self.now.requests.now w.iter.ensures.rest w.all.ensures.ran (λ x b q k. search (rules, tests)),
-          all_said message_of (event_fits c.args.count) c.args.self.now.events.now c.iter-then-all.ensures.rest c.all-then-all.ensures.ran (λ x b q k. search (rules, tests)),
-        )
+          search (
+            rules,
+            all_said message_of (request_fits c.args.count) c.args.self.now.requests.now w.iter.ensures.rest w.all.ensures.ran (λ x b q k. search (rules, tests)),
+            all_said message_of (event_fits c.args.count) c.args.self.now.events.now c.iter-then-all.ensures.rest c.all-then-all.ensures.ran (λ x b q k. search (rules, tests)),
+          )
       | else-name_fits w ↦ search rules
     ]
 
