@@ -1,5 +1,5 @@
 -- What the derived comparisons of descriptions test is `same_message` and `same_description`.
-use Rattle.std.proofs.Common.{◌≡◌, ℕ, Bool, true, false, ◌&&◌, eqb, List, map, Option, Some, None, length, take, sym, refl, ap, ◌∙◌, rules, arith}
+use Rattle.std.proofs.Common.{◌≡◌, ◌&&◌, eqb, List, map, length, take, sym, ap, ◌∙◌, rules}
 use Rattle.std.specs.Cmp.Derive.Mapped.{pointwise-map}
 use Rattle.std.specs.Bool.{beq}
 use Rattle.std.specs.Cmp.Lexicographic.{pointwise_decides}

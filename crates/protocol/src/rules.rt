@@ -151,6 +151,7 @@ fn few_messages(interfaces: &[Interface<'_>]) -> bool
 }
 
 /// Interfaces 0 to 3 are the core ones.
+#[tactic(auto, using(crate::proofs::Equals::starts_with_core))]
 fn begins_with_core(interfaces: &[Interface<'_>]) -> bool
     ensures { result ≡ begins_with_core (described interfaces.now) }
 {

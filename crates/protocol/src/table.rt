@@ -20,6 +20,7 @@ pub struct InterfaceTable<'a> {
 
 impl<'a> InterfaceTable<'a> {
     /// A table of these interfaces, where they keep every rule.
+    #[tactic(auto, using(crate::proofs::Decisions::sound_decides))]
     pub fn new(interfaces: &'a [Interface<'a>]) -> Result<InterfaceTable<'a>, Refusal>
         ensures value { result ≡ checked interfaces.entry }
         ensures words { Told interfaces.now result }
