@@ -183,8 +183,8 @@ module _ (t : Table) (by : Object) (d : Message') (b : ℕ) where
   hear_born_arg q (NewId x) w =
       cond_both (may_be_born x.number q.account.ledger) _ _ (λ (z : Heard). Births (z.1).account.ledger)
       (λ y. cond_both (ltb x.number (0xFF00_0000 + q.account.server_places)) _ _ (λ (z : Heard). Births (z.1).account.ledger)
-        (λ _. born x.number (or_anonymous d.child) (next_serial q.account.conn.last_serial) q.account.ledger (leb-true 0xFF00_0000 x.number (and_parts _ _ y).0) w)
-        (λ _. w))
+      (λ _. born x.number (or_anonymous d.child) (next_serial q.account.conn.last_serial) q.account.ledger (leb-true 0xFF00_0000 x.number (and_parts _ _ y).0) w)
+      (λ _. w))
       (λ _. w)
   hear_born_arg q (Array x) w = w
   hear_born_arg q (Fd x) w = w
@@ -281,10 +281,14 @@ module _ (t : Table) (h : History) (m : Moment) (so : Sound t) (run : Run t h m)
   heard rooms n k y le None r e = not_new k y (reckon t h).ledger refl le e
   heard rooms n k y le (Some f) r e = elim (cases_Bool (eqb f.sender 1)) [
     | inl one ↦ (let l' = (hear_display (reckon t h) (leaving f.behind m.end) (taken_into f.args rooms) f).account.ledger in
-      not_new k y l' (display_length f) le (ap (λ (c : Course). tenancy k c.account.ledger) (sym (cond-true (eqb f.sender 1) _ _ one)) ∙ e))
-    | inr other ↦ (f, r, walk_born t f.receiver f.desc (length (reckon t h).ledger) (laid 0 f.args) [] (record { account = reckon t h; child = None; wants = f.desc.args; shown = [] })
-      (λ j z q i. not_new j z (reckon t h).ledger refl q i) k y le
-      (ap (tenancy k) (sym (heard_ledger_lem n (reckon t h) (leaving f.behind m.end) (taken_into f.args rooms) f (hear_all t (reckon t h) f) (hear_all t (reckon t h) f).stop)) ∙ (ap (λ (c : Course). tenancy k c.account.ledger) (sym (cond-false (eqb f.sender 1) _ _ other)) ∙ e)))
+        not_new k y l' (display_length f) le (ap (λ (c : Course). tenancy k c.account.ledger) (sym (cond-true (eqb f.sender 1) _ _ one)) ∙ e))
+    | inr other ↦ (
+      f,
+      r,
+      walk_born t f.receiver f.desc (length (reckon t h).ledger) (laid 0 f.args) [] (record { account = reckon t h; child = None; wants = f.desc.args; shown = [] })
+          (λ j z q i. not_new j z (reckon t h).ledger refl q i) k y le
+          (ap (tenancy k) (sym (heard_ledger_lem n (reckon t h) (leaving f.behind m.end) (taken_into f.args rooms) f (hear_all t (reckon t h) f) (hear_all t (reckon t h) f).stop)) ∙ (ap (λ (c : Course). tenancy k c.account.ledger) (sym (cond-false (eqb f.sender 1) _ _ other)) ∙ e)),
+    )
   ]
     where
       display_length : (f : Reading') → length (hear_display (reckon t h) (leaving f.behind m.end) (taken_into f.args rooms) f).account.ledger ≡ length (reckon t h).ledger
@@ -300,6 +304,7 @@ module _ (t : Table) (h : History) (m : Moment) (so : Sound t) (run : Run t h m)
           rest true e = not_new k y (reckon t h).ledger refl le e
           rest false e = not_new k y (reckon t h).ledger refl le e
       next_in_course (Some p) e = heard rooms (settled_in (reckon t h).conn.phase) k y le (readable t (known (reckon t h)) m.end.waiting) refl e
+
       go : (b : Bool) → tenancy k (cond b (course t (reckon t h) m.end (next r rooms)).account (reckon t h)).ledger ≡ Some y → Began k y
       go true e = next_in_course (first_of m.end.waiting) e
       go false e = not_new k y (reckon t h).ledger refl le e

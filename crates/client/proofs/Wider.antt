@@ -3,6 +3,20 @@ use Rattle.std.proofs.Common.{refl}
 use Rattle.client.specs.Wider.{WiderCases}
 
 pub wider_cases : WiderCases
-wider_cases =
-    (refl, (refl, refl, refl), refl, refl, refl, (refl, refl, refl), (refl, refl, refl, refl, refl), (refl, refl, refl), (refl, refl, refl, refl),
-    (refl, refl), (refl, refl, refl), (refl, refl), refl, (refl, refl, refl), (refl, refl, refl, refl, refl, refl))
+wider_cases = (
+  refl,
+  (refl, refl, refl),
+  refl,
+  refl,
+  refl,
+  (refl, refl, refl),
+  (refl, refl, refl, refl, refl),
+  (refl, refl, refl),
+  (refl, refl, refl, refl),
+  (refl, refl),
+  (refl, refl, refl),
+  (refl, refl),
+  refl,
+  (refl, refl, refl),
+  (refl, refl, refl, refl, refl, refl),
+)

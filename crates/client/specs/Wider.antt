@@ -34,13 +34,13 @@ abbrev pub panel : Description
 panel = record {
   name = codes "panel";
   requests =
-    record { signature = NewIdKind ∷ ObjectKind Yes ∷ ObjectKind No ∷ []; destructor = false; child = Some 5; args = 4 ∷ 5 ∷ [] }
-    ∷ record { signature = []; destructor = true; child = None; args = [] }
-    ∷ record { signature = NewIdKind ∷ []; destructor = false; child = None; args = [] } ∷ [];
+      record { signature = NewIdKind ∷ ObjectKind Yes ∷ ObjectKind No ∷ []; destructor = false; child = Some 5; args = 4 ∷ 5 ∷ [] }
+      ∷ record { signature = []; destructor = true; child = None; args = [] }
+      ∷ record { signature = NewIdKind ∷ []; destructor = false; child = None; args = [] } ∷ [];
   events =
-    record { signature = NewIdKind ∷ []; destructor = false; child = Some 5; args = [] }
-    ∷ record { signature = ObjectKind Yes ∷ ObjectKind Yes ∷ StrKind Yes ∷ []; destructor = false; child = None; args = 4 ∷ 5 ∷ [] }
-    ∷ record { signature = []; destructor = true; child = None; args = [] } ∷ [];
+      record { signature = NewIdKind ∷ []; destructor = false; child = Some 5; args = [] }
+      ∷ record { signature = ObjectKind Yes ∷ ObjectKind Yes ∷ StrKind Yes ∷ []; destructor = false; child = None; args = 4 ∷ 5 ∷ [] }
+      ∷ record { signature = []; destructor = true; child = None; args = [] } ∷ [];
 }
 
 -- interface 5, a part of a panel

@@ -3,5 +3,6 @@
 
 pub mod connection;
 pub mod laws;
+mod lookups;
 pub mod object;
 mod reads;

@@ -1,5 +1,8 @@
 //! Objects, and what is said of them.
 
+ghost use Rattle.std.specs.Prelude.{◌≡◌};
+ghost use Rattle.client.specs.State.{notice_of, handle_of};
+
 use protocol::id::ObjectId;
 
 /// What a slot holds: an object of the connection.
@@ -29,4 +32,27 @@ pub struct Notice {
 pub struct ChildSpec {
     pub interface: u16,
     pub version: u32,
+}
+
+impl Object {
+    /// The handle of this object at a number.
+    pub(crate) fn handle(&self, number: u32) -> ObjectId
+        ensures { result ≡ handle_of number self.now }
+    {
+        ObjectId {
+            number,
+            serial: self.serial,
+            interface: self.interface,
+        }
+    }
+
+    /// Its notice: its handle at a number, and its data number.
+    pub(crate) fn notice(&self, number: u32) -> Notice
+        ensures { result ≡ notice_of number self.now }
+    {
+        Notice {
+            id: self.handle(number),
+            data: self.data,
+        }
+    }
 }
