@@ -1,7 +1,7 @@
 -- Requests: what is checked of one, in which order, and what is sent.
 use Rattle.std.specs.Prelude.{ℕ, ◌+◌, Bool, true, false, cond, not, ◌&&◌, List, [], ◌∷◌, map, length, Some, None, Ok, Err, Option, Result, ◌==◌, nat_lt}
-use Rattle.object_map.specs.Map.{Map, insert_new}
-use Rattle.object_map.specs.Store.{first_free, insert_free}
+use Rattle.object_map.specs.Map.{Map, next_number, insert_new}
+use Rattle.object_map.specs.Store.{insert_free}
 use Rattle.protocol.specs.Arguments.{agrees}
 use Rattle.protocol.specs.Descriptions.{Message, Description}
 use Rattle.protocol.specs.Lookups.{in_table, request_at, same_interface, fits_interface}
@@ -114,7 +114,7 @@ Child = ℕ × Object
 
 -- the number that the next child gets, if the client's slots have a place for it
 abbrev pub free_number : Map Object → Option ℕ
-free_number s = cond (nat_lt (first_free s.client) (length s.client.slots)) (Some (first_free s.client + 1)) None
+free_number s = next_number s
 
 -- the slots with the child placed, and what they show, the child counting as placed
 abbrev pub placing : Option Child → Map Object → Map Object

@@ -1,7 +1,7 @@
 -- The map: a client store and a server store, and what each call answers and leaves.
 use Rattle.std.specs.Prelude.{ℕ, ◌+◌, ◌^◌, Bool, cond, ◌&&◌, List, length, Some, None, Ok, Err, Option, Result, ◌==◌, nat_lt}
 use Rattle.object_map.specs.Number.{place}
-use Rattle.object_map.specs.Store.{Store, store_of, at, emptied, vacate, insert, insert_free, rewrite}
+use Rattle.object_map.specs.Store.{Store, store_of, at, emptied, vacate, insert, first_free, insert_free, rewrite}
 use Rattle.object_map.specs.declared.number.Place.{Place}
 use Rattle.object_map.specs.declared.number.Place.TheVariants.{Client, Server}
 use Rattle.object_map.specs.declared.refusal.Refusal.{Refusal}
@@ -96,6 +96,13 @@ insert_at (Some (Server i)) r m = in_server m (insert r i m.server)
 
 abbrev pub inserting_at : {R : Type 0} → ℕ → R → Map R → Result (Unit {0}) Refusal × Map R
 inserting_at n r m = guarded m (insert_at (place n) r m)
+
+-- client_next: the number that client_insert_new would give
+abbrev pub next_number : {R : Type 0} → Map R → Option ℕ
+next_number m = cond (nat_lt (first_free m.client) (length m.client.slots)) (Some (first_free m.client + 1)) None
+
+abbrev pub nexting : {R : Type 0} → Map R → Result (Option ℕ) Refusal
+nexting m = cond (fits m) (Ok (next_number m)) (Err Rooms)
 
 -- client_insert_new: the number is the place's index and 1
 abbrev pub numbered : {E : Type 0} → Result ℕ E → Result ℕ E

@@ -6,7 +6,7 @@
 mod calls;
 
 ghost use Rattle.std.specs.Prelude.{◌≡◌};
-ghost use Rattle.object_map.specs.Map.{map_of, creation, finding, removing, inserting_at, inserting_new};
+ghost use Rattle.object_map.specs.Map.{map_of, creation, fits, nexting, finding, removing, inserting_at, inserting_new};
 ghost use Rattle.object_map.specs.Laws.{Inserts, InsertsNew, Removes};
 ghost use Rattle.object_map.specs.Runs.{Stands, Begins, find_call, remove_call, insert_at_call, insert_new_call, UpdatesBy};
 
@@ -47,6 +47,24 @@ impl ObjectMap {
         ensures { result ≡ self.now.server.len }
     {
         self.server.len()
+    }
+
+    /// Whether the rooms have their lengths at creation.
+    pub fn fits<R: Copy>(&self, client: &[Option<R>], server: &[Option<R>]) -> bool
+        ensures { result ≡ fits (map_of self.now client.now server.now) }
+    {
+        self.client.fits(client) && self.server.fits(server)
+    }
+
+    /// The number that the next record of the client's range gets, if its room has a place for it.
+    pub fn client_next<R: Copy>(
+        &self,
+        client: &[Option<R>],
+        server: &[Option<R>],
+    ) -> Result<Option<u32>, Refusal>
+        ensures { result ≡ nexting (map_of self.now client.now server.now) }
+    {
+        calls::client_next(self, client, server)
     }
 
     /// The record with the number `id`.

@@ -123,7 +123,7 @@ impl Range {
     }
 
     // The first empty place in use, else the next one.
-    fn first_free<R: Copy>(&self, room: &[Option<R>]) -> usize
+    pub(crate) fn first_free<R: Copy>(&self, room: &[Option<R>]) -> usize
         ensures { result ≡ first_free (store_of room.now self.now.len) }
     {
         // The search stops at the first empty place: a loop that yields the index by break.

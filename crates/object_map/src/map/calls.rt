@@ -1,7 +1,7 @@
 //! The work of the calls, each held to its definition.
 
 ghost use Rattle.std.specs.Prelude.{◌≡◌, ◌^◌, ◌<◌, length, OnOk};
-ghost use Rattle.object_map.specs.Map.{map_of, creation, lent, finding, removing, inserting_at, inserting_new};
+ghost use Rattle.object_map.specs.Map.{map_of, creation, lent, nexting, finding, removing, inserting_at, inserting_new};
 ghost use Rattle.object_map.specs.Runs.{UpdatesBy};
 
 use super::{MAX_PLACES, ObjectMap};
@@ -39,6 +39,22 @@ fn check_rooms<R: Copy>(
     } else {
         Err(Refusal::Rooms)
     }
+}
+
+pub(crate) fn client_next<R: Copy>(
+    map: &ObjectMap,
+    client: &[Option<R>],
+    server: &[Option<R>],
+) -> Result<Option<u32>, Refusal>
+    ensures { result ≡ nexting (map_of map.now client.now server.now) }
+{
+    check_rooms(map, client, server)?;
+    let index = map.client.first_free(client);
+    Ok(if index < client.len() {
+        Some(index as u32 + 1)
+    } else {
+        None
+    })
 }
 
 pub(crate) fn find<R: Copy>(
