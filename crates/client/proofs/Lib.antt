@@ -1,6 +1,7 @@
 pub mod Agreement
 pub mod Balances
 pub mod Cases
+pub mod Changes
 pub mod Follows
 pub mod Nexts
 pub mod Passings

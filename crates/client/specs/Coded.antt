@@ -1,12 +1,15 @@
 -- What a call in the code comes to, in the words of the definitions.
 use Rattle.std.specs.Prelude.{◌≡◌, Ok, Err, Result}
 use Rattle.protocol.specs.declared.refusal.Refusal.{Refusal}
-use Rattle.client.specs.State.{Conn, conn_of, Moment, Rooms, Reply, done, waits, round, faulted, Left}
+use Rattle.client.specs.State.{Conn, conn_of, Moment, Rooms, Reply, done, waits, round, faulted, settled, Left}
 use Rattle.client.specs.declared.connection.Connection.{Connection}
+use Rattle.client.specs.declared.error.CallError.{CallError}
+use Rattle.client.specs.declared.error.CallError.TheVariants.{Refused, Fault as CallFault}
 use Rattle.client.specs.declared.reads.ReadAnswer.{ReadAnswer}
 use Rattle.client.specs.declared.reads.ReadAnswer.TheVariants.{Waits, Round as OpenRound, Fault}
 use Rattle.client.specs.declared.reads.ResumeAnswer.{ResumeAnswer}
 use Rattle.client.specs.declared.reads.ResumeAnswer.TheVariants.{Waits as StillWaits, Over, Fault as ResumeFault}
+use Rattle.client.specs.declared.settling.Settled.{Settled}
 
 -- an answer of the code's as a reply
 abbrev pub replied : {A : Type 0} → (A → Reply) → Result A Refusal → Result Reply Refusal
@@ -32,6 +35,15 @@ abbrev pub resume_reply : ResumeAnswer → Reply
 resume_reply (StillWaits w) = waits w
 resume_reply Over = done
 resume_reply (ResumeFault f) = faulted f
+
+-- the answers of settle and flush
+abbrev pub settled_reply : Settled → Reply
+settled_reply s = settled s.round s.notice
+
+abbrev pub flush_reply : Result (Unit {0}) CallError → Result Reply Refusal
+flush_reply (Ok _) = Ok done
+flush_reply (Err (Refused e)) = Err e
+flush_reply (Err (CallFault f)) = Ok (faulted f)
 
 -- the connection alone becomes this: its map stays
 abbrev pub Becomes : Connection → Conn → Connection → Type 0

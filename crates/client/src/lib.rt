@@ -2,7 +2,9 @@
 #![tactic(auto)]
 
 pub mod connection;
+pub mod error;
 pub mod laws;
 mod lookups;
 pub mod object;
 mod reads;
+mod settling;
