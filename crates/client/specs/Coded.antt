@@ -1,6 +1,11 @@
 -- What a call in the code comes to, in the words of the definitions.
 use Rattle.std.specs.Prelude.{◌≡◌, Ok, Err, Result}
 use Rattle.protocol.specs.declared.refusal.Refusal.{Refusal}
+use Rattle.protocol.specs.Descriptions.{Message, message_of}
+use Rattle.protocol.specs.declared.interface.MessageDesc.{MessageDesc}
+use Rattle.client.specs.Requests.{Request}
+use Rattle.client.specs.declared.object.Object.{Object}
+use Rattle.client.specs.declared.requests.Request.{Request as CodeRequest}
 use Rattle.client.specs.State.{Conn, conn_of, Moment, Rooms, Reply, done, waits, round, faulted, settled, Left}
 use Rattle.client.specs.declared.connection.Connection.{Connection}
 use Rattle.client.specs.declared.error.CallError.{CallError}
@@ -44,6 +49,15 @@ abbrev pub flush_reply : Result (Unit {0}) CallError → Result Reply Refusal
 flush_reply (Ok _) = Ok done
 flush_reply (Err (Refused e)) = Err e
 flush_reply (Err (CallFault f)) = Ok (faulted f)
+
+-- what a request in the code says
+abbrev pub request_of : CodeRequest → Request
+request_of r = record { sender = r.sender; opcode = r.opcode; args = r.args.now; text = r.text.now; content = r.«data»; child = r.child }
+
+-- a sender and a message in the code, or a refusal, as the definitions have them
+abbrev pub DescribedAs : Result (Object × MessageDesc) Refusal → Result (Object × Message) Refusal → Type 0
+DescribedAs (Ok (o, d)) x = x ≡ Ok (o, message_of d)
+DescribedAs (Err e) x = x ≡ Err e
 
 -- the connection alone becomes this: its map stays
 abbrev pub Becomes : Connection → Conn → Connection → Type 0

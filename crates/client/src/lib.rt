@@ -7,4 +7,5 @@ pub mod laws;
 mod lookups;
 pub mod object;
 mod reads;
+mod requests;
 mod settling;

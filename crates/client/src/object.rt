@@ -1,6 +1,7 @@
 //! Objects, and what is said of them.
 
 ghost use Rattle.std.specs.Prelude.{◌≡◌};
+ghost use Rattle.client.specs.Requests.{child_of};
 ghost use Rattle.client.specs.State.{notice_of, handle_of};
 
 use protocol::id::ObjectId;
@@ -53,6 +54,22 @@ impl Object {
         Notice {
             id: self.handle(number),
             data: self.data,
+        }
+    }
+}
+
+impl ChildSpec {
+    /// The object that is asked for, as it is placed.
+    pub(crate) fn object(&self, data: u64, serial: u32) -> Object
+        ensures { result ≡ child_of self.now «data» serial }
+    {
+        Object {
+            interface: self.interface,
+            version: self.version,
+            data,
+            serial,
+            client_destroyed: false,
+            server_destroyed: false,
         }
     }
 }

@@ -21,7 +21,7 @@ impl MessageDesc<'_> {
     }
 
     /// How many new objects a message has.
-    fn new_ids(&self) -> usize
+    pub fn new_ids(&self) -> usize
         ensures { result ≡ new_ids (message_of self.now) }
     {
         self.count_kind(ArgumentType::NewId)
