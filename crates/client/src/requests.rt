@@ -1,11 +1,12 @@
 //! Requests: what is checked of one, in which order.
 
-ghost use Rattle.std.specs.Prelude.{◌≡◌, true};
+ghost use Rattle.std.specs.Prelude.{◌≡◌, true, cond, ◌==◌};
 ghost use Rattle.object_map.specs.Map.{map_of, fits};
 ghost use Rattle.protocol.specs.Descriptions.{message_of};
 ghost use Rattle.protocol.specs.Lookups.{table_of};
+ghost use Rattle.protocol.specs.declared.refusal.Refusal.TheVariants.{BadObject};
 ghost use Rattle.client.specs.Coded.{request_of, DescribedAs};
-ghost use Rattle.client.specs.Requests.{creates, placeholders, child_for, child_of, child_stands, counting, suits, usable, object_stands, objects_stand, sender_stands};
+ghost use Rattle.client.specs.Requests.{creates, placeholders, child_for, child_of, child_stands, counting, holds_or, nullable, usable, objects_stand, sender_stands};
 ghost use Rattle.client.specs.State.{seen_in, resolved};
 
 use crate::connection::Connection;
@@ -125,4 +126,99 @@ pub(crate) fn choose_number(
         return Err(Refusal::NewIdNotNull);
     }
     Ok(Some((number, spec.object(request.data, serial))))
+}
+
+// An object that a request names: it is there, not destroyed, and fits what is wanted, if anything is.
+fn check_usable(
+    table: &InterfaceTable<'_>,
+    want: Option<u16>,
+    found: Option<Object>,
+) -> Result<(), Refusal>
+    ensures { result ≡ usable (table_of table.now) want found }
+{
+    let object = found.ok_or(Refusal::InvalidId)?;
+    if object.client_destroyed {
+        return Err(Refusal::InvalidId);
+    }
+    match want {
+        Some(want) if !table.fits(want, object.interface) => Err(Refusal::BadObject),
+        _ => Ok(()),
+    }
+}
+
+impl Connection {
+    // The object at a number, the child counting as placed.
+    fn look(
+        &self,
+        client: &[Option<Object>],
+        server: &[Option<Object>],
+        child: Option<Child>,
+        number: u32,
+    ) -> Option<Object>
+        requires { fits (map_of self.now.map client.now server.now) ≡ true }
+        ensures { result ≡ counting child (seen_in (map_of self.now.map client.now server.now)) number }
+    {
+        match child {
+            Some((at, object)) if at == number => Some(object),
+            _ => self.map.find(client, server, number).ok().flatten(),
+        }
+    }
+
+    // An object argument: null stands where it may; another resolves, is not destroyed, and fits what is wanted.
+    fn check_object(
+        &self,
+        table: &InterfaceTable<'_>,
+        client: &[Option<Object>],
+        server: &[Option<Object>],
+        child: Option<Child>,
+        want: Option<u16>,
+        kind: ArgumentType,
+        handle: ObjectId,
+    ) -> Result<(), Refusal>
+        requires { fits (map_of self.now.map client.now server.now) ≡ true }
+        ensures { result ≡ cond (handle.number == 0) (holds_or BadObject (nullable kind)) (usable (table_of table.now) want (resolved (counting child (seen_in (map_of self.now.map client.now server.now))) handle)) }
+    {
+        if handle.is_null() {
+            return if kind == ArgumentType::Object(AllowNull::Yes) {
+                Ok(())
+            } else {
+                Err(Refusal::BadObject)
+            };
+        }
+        let found = self
+            .look(client, server, child, handle.number)
+            .filter(|object| object.serial == handle.serial);
+        check_usable(table, want, found)
+    }
+
+    // The object arguments in order; each consumes an arg interface.
+    pub(crate) fn check_objects(
+        &self,
+        table: &InterfaceTable<'_>,
+        client: &[Option<Object>],
+        server: &[Option<Object>],
+        child: Option<Child>,
+        desc: &MessageDesc<'_>,
+        args: &[Argument<ObjectId>],
+    ) -> Result<(), Refusal>
+        requires { fits (map_of self.now.map client.now server.now) ≡ true }
+        ensures { result ≡ objects_stand (table_of table.now) (counting child (seen_in (map_of self.now.map client.now server.now))) (message_of desc.now).args (message_of desc.now).signature args.now }
+    {
+        let mut wants = desc.arg_interfaces;
+        let mut kinds = desc.signature;
+        let mut rest = args;
+        while let (Some((kind, more_kinds)), Some((arg, more_args))) = (
+            kinds.split_first(),
+            rest.split_first(),
+        ) {
+            if let Argument::Object(handle) = arg {
+                let want = wants.first().copied();
+                self.check_object(table, client, server, child, want, *kind, *handle)?;
+                wants = wants.get(1..).unwrap_or(&[]);
+            }
+            kinds = more_kinds;
+            rest = more_args;
+        }
+        Ok(())
+    }
 }
