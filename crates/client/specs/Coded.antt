@@ -3,7 +3,12 @@ use Rattle.std.specs.Prelude.{◌≡◌, Ok, Err, Result}
 use Rattle.protocol.specs.declared.refusal.Refusal.{Refusal}
 use Rattle.protocol.specs.Descriptions.{Message, message_of}
 use Rattle.protocol.specs.declared.interface.MessageDesc.{MessageDesc}
-use Rattle.client.specs.Requests.{Request}
+use Rattle.transport.specs.Drafts.{draft_of, Whole}
+use Rattle.transport.specs.Layout.{args_of}
+use Rattle.transport.specs.Wire.{message}
+use Rattle.transport.specs.declared.outgoing.Outgoing.{Outgoing}
+use Rattle.client.specs.Requests.{Request, Sending}
+use Rattle.client.specs.declared.requests.Sending.{Sending as CodeSending}
 use Rattle.client.specs.declared.object.Object.{Object}
 use Rattle.client.specs.declared.requests.Request.{Request as CodeRequest}
 use Rattle.client.specs.State.{Conn, conn_of, Moment, Rooms, Reply, done, waits, round, faulted, settled, Left}
@@ -54,10 +59,19 @@ flush_reply (Err (CallFault f)) = Ok (faulted f)
 abbrev pub request_of : CodeRequest → Request
 request_of r = record { sender = r.sender; opcode = r.opcode; args = r.args.now; text = r.text.now; content = r.«data»; child = r.child }
 
--- a sender and a message in the code, or a refusal, as the definitions have them
-abbrev pub DescribedAs : Result (Object × MessageDesc) Refusal → Result (Object × Message) Refusal → Type 0
-DescribedAs (Ok (o, d)) x = x ≡ Ok (o, message_of d)
-DescribedAs (Err e) x = x ≡ Err e
+-- a message in the code is this request, whole, with whatever child
+abbrev pub Carries : CodeRequest → Outgoing → Type 0
+Carries r o = (draft_of o ≡ record { written = message r.sender.number r.opcode (args_of r.args.now r.text.now); child = 0 }) × Whole (draft_of o)
+
+-- a sender, its description and the message in the code, or a refusal, as the definitions have them
+abbrev pub DescribedAs : CodeRequest → Result (Object × MessageDesc × Outgoing) Refusal → Result (Object × Message) Refusal → Type 0
+DescribedAs r (Ok (o, d, m)) x = (x ≡ Ok (o, message_of d)) × Carries r m
+DescribedAs r (Err e) x = x ≡ Err e
+
+-- an accepted request in the code, or a refusal
+abbrev pub SentAs : CodeRequest → Result CodeSending Refusal → Result Sending Refusal → Type 0
+SentAs r (Ok x) y = (y ≡ Ok (record { by = x.by; desc = message_of x.desc; child = x.child })) × Carries r x.message
+SentAs r (Err e) y = y ≡ Err e
 
 -- the connection alone becomes this: its map stays
 abbrev pub Becomes : Connection → Conn → Connection → Type 0

@@ -1,13 +1,14 @@
 //! Requests: what is checked of one, in which order.
 
-ghost use Rattle.std.specs.Prelude.{◌≡◌, true, cond, ◌==◌};
+ghost use Rattle.std.specs.Prelude.{◌≡◌, true, cond, IfOk, ◌==◌};
 ghost use Rattle.object_map.specs.Map.{map_of, fits};
 ghost use Rattle.protocol.specs.Descriptions.{message_of};
 ghost use Rattle.protocol.specs.Lookups.{table_of};
 ghost use Rattle.protocol.specs.declared.refusal.Refusal.TheVariants.{BadObject};
-ghost use Rattle.client.specs.Coded.{request_of, DescribedAs};
-ghost use Rattle.client.specs.Requests.{creates, placeholders, child_for, child_of, child_stands, counting, holds_or, nullable, usable, objects_stand, sender_stands};
-ghost use Rattle.client.specs.State.{seen_in, resolved};
+ghost use Rattle.transport.specs.Drafts.{draft_of, Whole, composing, composed};
+ghost use Rattle.client.specs.Coded.{request_of, DescribedAs, SentAs};
+ghost use Rattle.client.specs.Requests.{creates, placeholders, child_for, child_of, child_stands, counting, holds_or, nullable, usable, objects_stand, sender_stands, checked};
+ghost use Rattle.client.specs.State.{seen_in, resolved, next_serial};
 
 use crate::connection::Connection;
 use crate::object::{ChildSpec, Object};
@@ -34,14 +35,24 @@ pub struct Request<'a> {
 /// A new object, with the number that it will have.
 pub(crate) type Child = (u32, Object);
 
+impl<'a> Request<'a> {
+    // The request as a message to put, where it may be sent.
+    fn message(&self) -> Result<Outgoing<'a>, Refusal>
+        ensures defined { composed result ≡ composing self.now.sender.number self.now.opcode self.now.args.now self.now.text.now }
+        ensures whole { IfOk result (λ o. Whole (draft_of o)) }
+    {
+        Outgoing::new(self.sender.number, self.opcode, self.args, self.text)
+    }
+}
+
 // The sender's object and the message: it resolves, it has the opcode, it is not destroyed, and the arguments have the
 // kinds of the signature and may be sent.
-pub(crate) fn describe<'t>(
+pub(crate) fn describe<'t, 'a>(
     table: &InterfaceTable<'t>,
-    request: &Request<'_>,
+    request: &Request<'a>,
     sender: Option<Object>,
-) -> Result<(Object, MessageDesc<'t>), Refusal>
-    ensures { DescribedAs result (sender_stands (table_of table.now) (request_of request.now) sender) }
+) -> Result<(Object, MessageDesc<'t>, Outgoing<'a>), Refusal>
+    ensures { DescribedAs request.now result (sender_stands (table_of table.now) (request_of request.now) sender) }
 {
     let object = sender.ok_or(Refusal::InvalidId)?;
     let desc = table
@@ -53,13 +64,8 @@ pub(crate) fn describe<'t>(
     if !check_for_signature(desc.signature, request.args) {
         return Err(Refusal::BadSignature);
     }
-    Outgoing::new(
-        request.sender.number,
-        request.opcode,
-        request.args,
-        request.text,
-    )?;
-    Ok((object, desc))
+    let message = request.message()?;
+    Ok((object, desc, message))
 }
 
 // What a child is to be, by its description, its sender's version and a spec.
@@ -220,5 +226,40 @@ impl Connection {
             rest = more_args;
         }
         Ok(())
+    }
+}
+
+/// A request that nothing stands against: its sender's object, its description, its child and the message to put.
+pub(crate) struct Sending<'t, 'a> {
+    pub(crate) by: Object,
+    pub(crate) desc: MessageDesc<'t>,
+    pub(crate) child: Option<Child>,
+    pub(crate) message: Outgoing<'a>,
+}
+
+impl Connection {
+    // All checks in their order.
+    pub(crate) fn check_request<'t, 'a>(
+        &self,
+        table: &InterfaceTable<'t>,
+        client: &[Option<Object>],
+        server: &[Option<Object>],
+        request: &Request<'a>,
+    ) -> Result<Sending<'t, 'a>, Refusal>
+        requires { fits (map_of self.now.map client.now server.now) ≡ true }
+        ensures { SentAs request.now result (checked (table_of table.now) (map_of self.now.map client.now server.now) (next_serial self.now.last_serial) (request_of request.now)) }
+    {
+        let sender = self.resolve(client, server, request.sender)?;
+        let (by, desc, message) = describe(table, request, sender)?;
+        let free = self.map.client_next(client, server).ok().flatten();
+        let serial = self.last_serial.wrapping_add(1);
+        let child = choose_number(table, free, serial, request, &by, &desc)?;
+        self.check_objects(table, client, server, child, &desc, request.args)?;
+        Ok(Sending {
+            by,
+            desc,
+            child,
+            message,
+        })
     }
 }
