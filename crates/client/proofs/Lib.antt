@@ -6,6 +6,7 @@ pub mod Follows
 pub mod Nexts
 pub mod Passings
 pub mod Reached
+pub mod Sendings
 pub mod Sends
 pub mod Simple
 pub mod Slots

@@ -1,17 +1,21 @@
 -- What a call in the code comes to, in the words of the definitions.
-use Rattle.std.specs.Prelude.{◌≡◌, Ok, Err, Result}
+use Rattle.std.specs.Prelude.{◌≡◌, ℕ, true, Some, Ok, Err, Option, Result}
 use Rattle.protocol.specs.declared.refusal.Refusal.{Refusal}
 use Rattle.protocol.specs.Descriptions.{Message, message_of}
 use Rattle.protocol.specs.declared.interface.MessageDesc.{MessageDesc}
-use Rattle.transport.specs.Drafts.{draft_of, Whole}
+use Rattle.object_map.specs.Map.{Map, fits}
+use Rattle.transport.specs.Drafts.{draft_of, with_child, spoken, Whole}
+use Rattle.transport.specs.Ends.{End, putting}
+use Rattle.transport.specs.Wire as wire
 use Rattle.transport.specs.Layout.{args_of}
-use Rattle.transport.specs.Wire.{message}
+use Rattle.transport.specs.Wire.{message, clipped}
 use Rattle.transport.specs.declared.outgoing.Outgoing.{Outgoing}
-use Rattle.client.specs.Requests.{Request, Sending}
+use Rattle.client.specs.Calls.{with_put}
+use Rattle.client.specs.Requests.{Request, Sending, Child, placing}
 use Rattle.client.specs.declared.requests.Sending.{Sending as CodeSending}
 use Rattle.client.specs.declared.object.Object.{Object}
 use Rattle.client.specs.declared.requests.Request.{Request as CodeRequest}
-use Rattle.client.specs.State.{Conn, conn_of, Moment, Rooms, Reply, done, waits, round, faulted, settled, Left}
+use Rattle.client.specs.State.{Conn, conn_of, Moment, Rooms, Reply, done, waits, round, faulted, settled, sent, Left}
 use Rattle.client.specs.declared.connection.Connection.{Connection}
 use Rattle.client.specs.declared.error.CallError.{CallError}
 use Rattle.client.specs.declared.error.CallError.TheVariants.{Refused, Fault as CallFault}
@@ -19,6 +23,7 @@ use Rattle.client.specs.declared.reads.ReadAnswer.{ReadAnswer}
 use Rattle.client.specs.declared.reads.ReadAnswer.TheVariants.{Waits, Round as OpenRound, Fault}
 use Rattle.client.specs.declared.reads.ResumeAnswer.{ResumeAnswer}
 use Rattle.client.specs.declared.reads.ResumeAnswer.TheVariants.{Waits as StillWaits, Over, Fault as ResumeFault}
+use Rattle.client.specs.declared.sending.Sent.{Sent}
 use Rattle.client.specs.declared.settling.Settled.{Settled}
 
 -- an answer of the code's as a reply
@@ -72,6 +77,21 @@ DescribedAs r (Err e) x = x ≡ Err e
 abbrev pub SentAs : CodeRequest → Result CodeSending Refusal → Result Sending Refusal → Type 0
 SentAs r (Ok x) y = (y ≡ Ok (record { by = x.by; desc = message_of x.desc; child = x.child })) × Carries r x.message
 SentAs r (Err e) y = y ≡ Err e
+
+abbrev pub sent_reply : Sent → Reply
+sent_reply s = sent s.child s.notice
+
+-- a message in the code with a child in its placeholder's place
+abbrev pub outgoing_with : ℕ → Outgoing → wire.Message
+outgoing_with n o = clipped (spoken (with_child n (draft_of o)))
+
+-- it is put, and a fault is stored
+abbrev pub Puts : wire.Message → Connection → End → Connection → End → Type 0
+Puts m c e c' e' = (conn_of c' ≡ with_put (putting m e).0 (conn_of c)) × (c'.map ≡ c.map) × (e' ≡ (putting m e).1)
+
+-- a child is placed, if there is one, and rooms that fit go on to fit
+abbrev pub Places : Option Child → Map Object → Map Object → Type 0
+Places c m m' = (m' ≡ placing c m) × (fits m' ≡ true)
 
 -- the connection alone becomes this: its map stays
 abbrev pub Becomes : Connection → Conn → Connection → Type 0

@@ -8,4 +8,5 @@ mod lookups;
 pub mod object;
 mod reads;
 mod requests;
+mod sending;
 mod settling;

@@ -230,6 +230,7 @@ impl Connection {
 }
 
 /// A request that nothing stands against: its sender's object, its description, its child and the message to put.
+#[derive(Clone, Copy)]
 pub(crate) struct Sending<'t, 'a> {
     pub(crate) by: Object,
     pub(crate) desc: MessageDesc<'t>,
