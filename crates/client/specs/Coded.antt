@@ -11,14 +11,19 @@ use Rattle.transport.specs.Layout.{args_of}
 use Rattle.transport.specs.Wire.{message, clipped}
 use Rattle.transport.specs.declared.outgoing.Outgoing.{Outgoing}
 use Rattle.client.specs.Calls.{with_put}
+use Rattle.client.specs.Events.{Passing, Passed}
 use Rattle.client.specs.Requests.{Request, Sending, Child, placing}
 use Rattle.client.specs.declared.requests.Sending.{Sending as CodeSending}
 use Rattle.client.specs.declared.object.Object.{Object}
 use Rattle.client.specs.declared.requests.Request.{Request as CodeRequest}
-use Rattle.client.specs.State.{Conn, conn_of, Moment, Rooms, Reply, done, waits, round, faulted, settled, sent, Left}
+use Rattle.client.specs.State.{Conn, conn_of, with_serial, Moment, Rooms, Reply, done, waits, round, faulted, settled, sent, Left}
 use Rattle.client.specs.declared.connection.Connection.{Connection}
 use Rattle.client.specs.declared.error.CallError.{CallError}
 use Rattle.client.specs.declared.error.CallError.TheVariants.{Refused, Fault as CallFault}
+use Rattle.protocol.specs.declared.argument.Argument.{Argument}
+use Rattle.protocol.specs.declared.error.ProtocolReason.{ProtocolReason}
+use Rattle.protocol.specs.declared.id.ObjectId.{ObjectId}
+use Rattle.client.specs.declared.passing.Passing.{Passing as CodePassing}
 use Rattle.client.specs.declared.reads.ReadAnswer.{ReadAnswer}
 use Rattle.client.specs.declared.reads.ReadAnswer.TheVariants.{Waits, Round as OpenRound, Fault}
 use Rattle.client.specs.declared.reads.ResumeAnswer.{ResumeAnswer}
@@ -92,6 +97,19 @@ Puts m c e c' e' = (conn_of c' ≡ with_put (putting m e).0 (conn_of c)) × (c'.
 -- a child is placed, if there is one, and rooms that fit go on to fit
 abbrev pub Places : Option Child → Map Object → Map Object → Type 0
 Places c m m' = (m' ≡ placing c m) × (fits m' ≡ true)
+
+-- how far the passing of an event's arguments has come, in the code
+abbrev pub passing_of : CodePassing → Connection → Map Object → Passing
+passing_of p c m = record { slots = m; last = c.last_serial; child = p.child; wants = p.wants.now }
+
+-- a handle in the code, or why there is none, as an argument that was passed
+abbrev pub HandleAs : (ObjectId → Argument ObjectId) → Result ObjectId ProtocolReason → Passing → Passed → Type 0
+HandleAs f (Ok h) p x = x ≡ (Ok (f h), p)
+HandleAs f (Err r) p x = x ≡ (Err r, p)
+
+-- of the connection only the last serial and the map change
+abbrev pub KeepsConn : Connection → Connection → Type 0
+KeepsConn c c' = conn_of c' ≡ with_serial c'.last_serial (conn_of c)
 
 -- the connection alone becomes this: its map stays
 abbrev pub Becomes : Connection → Conn → Connection → Type 0

@@ -6,6 +6,7 @@ pub mod error;
 pub mod laws;
 mod lookups;
 pub mod object;
+mod passing;
 mod reads;
 mod requests;
 mod sending;

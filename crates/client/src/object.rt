@@ -1,6 +1,7 @@
 //! Objects, and what is said of them.
 
 ghost use Rattle.std.specs.Prelude.{◌≡◌};
+ghost use Rattle.client.specs.Events.{newborn};
 ghost use Rattle.client.specs.Requests.{child_of};
 ghost use Rattle.client.specs.State.{notice_of, handle_of};
 
@@ -44,6 +45,20 @@ impl Object {
             number,
             serial: self.serial,
             interface: self.interface,
+        }
+    }
+
+    /// The child that an event to this object creates.
+    pub(crate) fn newborn(&self, interface: u16, serial: u32) -> Object
+        ensures { result ≡ newborn self.now interface serial }
+    {
+        Object {
+            interface,
+            version: self.version,
+            data: 0,
+            serial,
+            client_destroyed: self.client_destroyed,
+            server_destroyed: false,
         }
     }
 
