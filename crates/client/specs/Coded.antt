@@ -1,5 +1,5 @@
 -- What a call in the code comes to, in the words of the definitions.
-use Rattle.std.specs.Prelude.{◌≡◌, ℕ, true, Some, Ok, Err, Option, Result}
+use Rattle.std.specs.Prelude.{◌≡◌, ℕ, true, List, Some, None, Ok, Err, Option, Result}
 use Rattle.protocol.specs.declared.refusal.Refusal.{Refusal}
 use Rattle.protocol.specs.Descriptions.{Message, message_of}
 use Rattle.protocol.specs.declared.interface.MessageDesc.{MessageDesc}
@@ -11,7 +11,7 @@ use Rattle.transport.specs.Layout.{args_of}
 use Rattle.transport.specs.Wire.{message, clipped}
 use Rattle.transport.specs.declared.outgoing.Outgoing.{Outgoing}
 use Rattle.client.specs.Calls.{with_put}
-use Rattle.client.specs.Events.{Passing, Passed}
+use Rattle.client.specs.Events.{Walked, Passing, Passed}
 use Rattle.client.specs.Requests.{Request, Sending, Child, placing}
 use Rattle.client.specs.declared.requests.Sending.{Sending as CodeSending}
 use Rattle.client.specs.declared.object.Object.{Object}
@@ -106,6 +106,11 @@ passing_of p c m = record { slots = m; last = c.last_serial; child = p.child; wa
 abbrev pub HandleAs : (ObjectId → Argument ObjectId) → Result ObjectId ProtocolReason → Passing → Passed → Type 0
 HandleAs f (Ok h) p x = x ≡ (Ok (f h), p)
 HandleAs f (Err r) p x = x ≡ (Err r, p)
+
+-- arguments that were passed in the code: the answer, the room, the last serial and the slots
+abbrev pub WalkedAs : Result (Option ℕ) ProtocolReason → List (Argument ObjectId) → ℕ → Map Object → Walked Passing (Argument ObjectId) ProtocolReason → Type 0
+WalkedAs (Ok child) args last m w = (w.stop ≡ None) × (w.state.child ≡ child) × (w.room ≡ args) × (w.state.last ≡ last) × (w.state.slots ≡ m)
+WalkedAs (Err r) args last m w = (w.stop ≡ Some r) × (w.room ≡ args) × (w.state.last ≡ last) × (w.state.slots ≡ m)
 
 -- of the connection only the last serial and the map change
 abbrev pub KeepsConn : Connection → Connection → Type 0

@@ -5,8 +5,8 @@ ghost use Rattle.object_map.specs.Map.{map_of, fits};
 ghost use Rattle.protocol.specs.Descriptions.{message_of};
 ghost use Rattle.protocol.specs.Lookups.{table_of};
 ghost use Rattle.protocol.specs.declared.argument.Argument.TheVariants.{Object as ObjectArg, NewId as NewIdArg};
-ghost use Rattle.client.specs.Coded.{passing_of, HandleAs, KeepsConn};
-ghost use Rattle.client.specs.Events.{vacated, pass_object, pass_new, pass_arg};
+ghost use Rattle.client.specs.Coded.{passing_of, HandleAs, WalkedAs, KeepsConn};
+ghost use Rattle.client.specs.Events.{vacated, pass_object, pass_new, pass_arg, pass_all};
 ghost use Rattle.client.specs.Requests.{rest};
 ghost use Rattle.client.specs.State.{seen_in};
 
@@ -145,5 +145,30 @@ impl Connection {
             }
             _ => Ok(arg),
         }
+    }
+
+    // All of them, in order, each rewritten where it lies; the number of the object that was created, or why one fails.
+    pub(crate) fn pass_all(
+        &mut self,
+        table: &InterfaceTable<'_>,
+        client: &mut [Option<Object>],
+        server: &mut [Option<Object>],
+        by: &Object,
+        desc: &MessageDesc<'_>,
+        args: &mut [Argument<ObjectId>],
+    ) -> Result<Option<u32>, ProtocolReason>
+        requires { fits (map_of self.old.map client.old server.old) ≡ true }
+        ensures passed { WalkedAs result args.new self.new.last_serial (map_of self.new.map client.new server.new) (pass_all (table_of table.now) by.now (message_of desc.now) (map_of self.old.map client.old server.old) self.old.last_serial args.old) }
+        ensures fit { fits (map_of self.new.map client.new server.new) ≡ true }
+        ensures conn { KeepsConn self.old self.new }
+    {
+        let mut passing = Passing {
+            child: None,
+            wants: desc.arg_interfaces,
+        };
+        for arg in args.iter_mut() {
+            *arg = self.pass_arg(table, client, server, &mut passing, by, desc, *arg)?;
+        }
+        Ok(passing.child)
     }
 }
