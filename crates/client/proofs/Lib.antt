@@ -12,6 +12,7 @@ pub mod Simple
 pub mod Slots
 pub mod Standard
 pub mod Steps
+pub mod Takings
 pub mod Tenants
 pub mod Wakes
 pub mod Whole

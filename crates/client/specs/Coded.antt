@@ -1,14 +1,15 @@
 -- What a call in the code comes to, in the words of the definitions.
-use Rattle.std.specs.Prelude.{◌≡◌, ℕ, true, List, Some, None, Ok, Err, Option, Result}
+use Rattle.std.specs.Prelude.{◌≡◌, ℕ, ◌≤◌, true, List, length, Some, None, Ok, Err, sum_by, Option, Result}
 use Rattle.protocol.specs.declared.refusal.Refusal.{Refusal}
 use Rattle.protocol.specs.Descriptions.{Message, message_of}
 use Rattle.protocol.specs.declared.interface.MessageDesc.{MessageDesc}
 use Rattle.object_map.specs.Map.{Map, fits}
 use Rattle.transport.specs.Drafts.{draft_of, with_child, spoken, Whole}
-use Rattle.transport.specs.Ends.{End, putting}
+use Rattle.std.specs.List.{slice_get}
+use Rattle.transport.specs.Ends.{End, Waiting, take_of, leaving, putting}
 use Rattle.transport.specs.Wire as wire
-use Rattle.transport.specs.Layout.{args_of}
-use Rattle.transport.specs.Wire.{message, clipped}
+use Rattle.transport.specs.Layout.{args_of, laid, written}
+use Rattle.transport.specs.Wire.{Arg, message, clipped, texts}
 use Rattle.transport.specs.declared.outgoing.Outgoing.{Outgoing}
 use Rattle.client.specs.Calls.{with_put}
 use Rattle.client.specs.Events.{Walked, Passing, Passed}
@@ -16,13 +17,18 @@ use Rattle.client.specs.Requests.{Request, Sending, Child, placing}
 use Rattle.client.specs.declared.requests.Sending.{Sending as CodeSending}
 use Rattle.client.specs.declared.object.Object.{Object}
 use Rattle.client.specs.declared.requests.Request.{Request as CodeRequest}
-use Rattle.client.specs.State.{Conn, conn_of, with_serial, Moment, Rooms, Reply, done, waits, round, faulted, settled, sent, Left}
+use Rattle.client.specs.State.{Conn, conn_of, with_serial, Moment, Rooms, Reply, done, waits, round, faulted, quiet, handed_out, over, settled, sent, Left}
 use Rattle.client.specs.declared.connection.Connection.{Connection}
 use Rattle.client.specs.declared.error.CallError.{CallError}
 use Rattle.client.specs.declared.error.CallError.TheVariants.{Refused, Fault as CallFault}
 use Rattle.protocol.specs.declared.argument.Argument.{Argument}
+use Rattle.protocol.specs.declared.argument.Argument.TheVariants.{Int as IntArg, Uint as UintArg, Fixed as FixedArg, Str as StrArg, Object as ObjectArg, NewId as NewIdArg, Array as ArrayArg, Fd as FdArg}
+use Rattle.protocol.specs.declared.argument.ArgumentType.{ArgumentType}
+use Rattle.protocol.specs.declared.error.WaylandError.{WaylandError}
 use Rattle.protocol.specs.declared.error.ProtocolReason.{ProtocolReason}
 use Rattle.protocol.specs.declared.id.ObjectId.{ObjectId}
+use Rattle.client.specs.declared.next.NextAnswer.{NextAnswer}
+use Rattle.client.specs.declared.next.NextAnswer.TheVariants.{Quiet, Handed as HandedOut, Over as RoundOver}
 use Rattle.client.specs.declared.passing.Passing.{Passing as CodePassing}
 use Rattle.client.specs.declared.reads.ReadAnswer.{ReadAnswer}
 use Rattle.client.specs.declared.reads.ReadAnswer.TheVariants.{Waits, Round as OpenRound, Fault}
@@ -115,6 +121,60 @@ WalkedAs (Err r) args last m w = (w.stop ≡ Some r) × (w.room ≡ args) × (w.
 -- of the connection only the last serial and the map change
 abbrev pub KeepsConn : Connection → Connection → Type 0
 KeepsConn c c' = conn_of c' ≡ with_serial c'.last_serial (conn_of c)
+
+-- the answer of next
+abbrev pub next_reply : NextAnswer → Reply
+next_reply (Quiet r) = quiet r
+next_reply (HandedOut e h o) = handed_out e h o
+next_reply (RoundOver a) = over a
+
+abbrev pub over_fault : WaylandError → Reply
+over_fault f = over (Err f)
+
+-- how many bytes of text arguments name in all
+abbrev pub text_in : Argument ObjectId → ℕ
+text_in (IntArg x) = 0
+text_in (UintArg x) = 0
+text_in (FixedArg x) = 0
+text_in (StrArg None) = 0
+text_in (StrArg (Some s)) = s.len
+text_in (ObjectArg h) = 0
+text_in (NewIdArg h) = 0
+text_in (ArrayArg s) = s.len
+text_in (FdArg x) = 0
+
+abbrev pub text_lens : List (Argument ObjectId) → ℕ
+text_lens args = sum_by text_in args
+
+-- the number that an argument in a room carries
+abbrev pub number_of : Option (Argument ObjectId) → ℕ
+number_of None = 0
+number_of (Some (IntArg x)) = 0
+number_of (Some (UintArg n)) = n
+number_of (Some (FixedArg x)) = 0
+number_of (Some (StrArg t)) = 0
+number_of (Some (ObjectArg h)) = h.number
+number_of (Some (NewIdArg h)) = h.number
+number_of (Some (ArrayArg s)) = 0
+number_of (Some (FdArg n)) = n
+
+abbrev pub number_given : List (Argument ObjectId) → ℕ → ℕ
+number_given args i = number_of (slice_get args i)
+
+-- the first frame is taken into two rooms, where it fits a signature; its text is no longer than a frame's
+pub record Taking (signature : List ArgumentType) (e : End) (args : List (Argument ObjectId)) (text : List ℕ) (n : ℕ) (e' : End) (args' : List (Argument ObjectId)) (text' : List ℕ) : Type 0 where
+  pub values : List Arg
+  pub behind : Waiting
+  pub first : take_of signature e.waiting ≡ Some (values, behind)
+  pub short : length (texts values) ≤ 1024
+  pub count : n ≡ length values
+  pub end : e' ≡ leaving behind e
+  pub args_are : args' ≡ written (laid 0 values) args
+  pub text_is : text' ≡ written (texts values) text
+
+abbrev pub TakesAs : List ArgumentType → End → List (Argument ObjectId) → List ℕ → Option ℕ → End → List (Argument ObjectId) → List ℕ → Type 0
+TakesAs signature e args text None e' args' text' = (take_of signature e.waiting ≡ None) × (e' ≡ e) × (args' ≡ args) × (text' ≡ text)
+TakesAs signature e args text (Some n) e' args' text' = Taking signature e args text n e' args' text'
 
 -- the connection alone becomes this: its map stays
 abbrev pub Becomes : Connection → Conn → Connection → Type 0

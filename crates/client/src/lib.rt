@@ -5,6 +5,7 @@ pub mod connection;
 pub mod error;
 pub mod laws;
 mod lookups;
+mod next;
 pub mod object;
 mod passing;
 mod reads;
