@@ -3,6 +3,7 @@ pub mod Balances
 pub mod Cases
 pub mod Changes
 pub mod Follows
+pub mod Holdings
 pub mod Nexts
 pub mod Passings
 pub mod Reached

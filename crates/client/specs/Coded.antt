@@ -1,9 +1,9 @@
 -- What a call in the code comes to, in the words of the definitions.
-use Rattle.std.specs.Prelude.{◌≡◌, ℕ, ◌≤◌, true, List, length, Some, None, Ok, Err, sum_by, Option, Result}
+use Rattle.std.specs.Prelude.{◌≡◌, ℕ, ◌≤◌, true, List, length, take, Some, None, Ok, Err, sum_by, Option, Result}
 use Rattle.protocol.specs.declared.refusal.Refusal.{Refusal}
 use Rattle.protocol.specs.Descriptions.{Message, message_of}
 use Rattle.protocol.specs.declared.interface.MessageDesc.{MessageDesc}
-use Rattle.object_map.specs.Map.{Map, fits}
+use Rattle.object_map.specs.Map.{Map, fits, lookup}
 use Rattle.transport.specs.Drafts.{draft_of, with_child, spoken, Whole}
 use Rattle.std.specs.List.{slice_get}
 use Rattle.transport.specs.Ends.{End, Waiting, take_of, leaving, putting}
@@ -11,7 +11,7 @@ use Rattle.transport.specs.Wire as wire
 use Rattle.transport.specs.Layout.{args_of, laid, written}
 use Rattle.transport.specs.Wire.{Arg, message, clipped, texts}
 use Rattle.transport.specs.declared.outgoing.Outgoing.{Outgoing}
-use Rattle.client.specs.Calls.{with_put}
+use Rattle.client.specs.Calls.{interface_found, with_put}
 use Rattle.client.specs.Events.{Walked, Passing, Passed}
 use Rattle.client.specs.Requests.{Request, Sending, Child, placing}
 use Rattle.client.specs.declared.requests.Sending.{Sending as CodeSending}
@@ -24,7 +24,9 @@ use Rattle.client.specs.declared.error.CallError.TheVariants.{Refused, Fault as 
 use Rattle.protocol.specs.declared.argument.Argument.{Argument}
 use Rattle.protocol.specs.declared.argument.Argument.TheVariants.{Int as IntArg, Uint as UintArg, Fixed as FixedArg, Str as StrArg, Object as ObjectArg, NewId as NewIdArg, Array as ArrayArg, Fd as FdArg}
 use Rattle.protocol.specs.declared.argument.ArgumentType.{ArgumentType}
+use Rattle.protocol.specs.declared.error.ProtocolReason.TheVariants.{ErrorEvent}
 use Rattle.protocol.specs.declared.error.WaylandError.{WaylandError}
+use Rattle.protocol.specs.declared.error.WaylandError.TheVariants.{Protocol}
 use Rattle.protocol.specs.declared.error.ProtocolReason.{ProtocolReason}
 use Rattle.protocol.specs.declared.id.ObjectId.{ObjectId}
 use Rattle.client.specs.declared.next.NextAnswer.{NextAnswer}
@@ -161,6 +163,10 @@ number_of (Some (FdArg n)) = n
 abbrev pub number_given : List (Argument ObjectId) → ℕ → ℕ
 number_given args i = number_of (slice_get args i)
 
+-- the fault that an error event tells, by its arguments in the room
+abbrev pub error_given : Map Object → List (Argument ObjectId) → WaylandError
+error_given m args = Protocol (record { code = number_given args 1; object_id = number_given args 0; object_interface = interface_found (lookup (number_given args 0) m); reason = ErrorEvent (text_lens args) })
+
 -- the first frame is taken into two rooms, where it fits a signature; its text is no longer than a frame's
 pub record Taking (signature : List ArgumentType) (e : End) (args : List (Argument ObjectId)) (text : List ℕ) (n : ℕ) (e' : End) (args' : List (Argument ObjectId)) (text' : List ℕ) : Type 0 where
   pub values : List Arg
@@ -168,6 +174,7 @@ pub record Taking (signature : List ArgumentType) (e : End) (args : List (Argume
   pub first : take_of signature e.waiting ≡ Some (values, behind)
   pub short : length (texts values) ≤ 1024
   pub count : n ≡ length values
+  pub fit : n ≤ length args'
   pub end : e' ≡ leaving behind e
   pub args_are : args' ≡ written (laid 0 values) args
   pub text_is : text' ≡ written (texts values) text
@@ -175,6 +182,14 @@ pub record Taking (signature : List ArgumentType) (e : End) (args : List (Argume
 abbrev pub TakesAs : List ArgumentType → End → List (Argument ObjectId) → List ℕ → Option ℕ → End → List (Argument ObjectId) → List ℕ → Type 0
 TakesAs signature e args text None e' args' text' = (take_of signature e.waiting ≡ None) × (e' ≡ e) × (args' ≡ args) × (text' ≡ text)
 TakesAs signature e args text (Some n) e' args' text' = Taking signature e args text n e' args' text'
+
+-- two rooms hold these values from their start
+abbrev pub Holding : List Arg → List (Argument ObjectId) → List ℕ → Type 0
+Holding xs args text = (args ≡ laid 0 xs) × (length (texts xs) ≤ 1024) × (take (length (texts xs)) text ≡ texts xs)
+
+-- the rooms that next is lent
+abbrev pub rooms_in : List (Argument ObjectId) → List ℕ → List ℕ → Rooms
+rooms_in args text fault_text = record { args = args; text = text; fault_text = fault_text }
 
 -- the connection alone becomes this: its map stays
 abbrev pub Becomes : Connection → Conn → Connection → Type 0

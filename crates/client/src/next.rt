@@ -1,22 +1,32 @@
 //! The next event of an open round.
 
-ghost use Rattle.std.specs.Prelude.{◌≡◌, ◌≤◌, true, List, length, Ok, Option};
-ghost use Rattle.object_map.specs.Map.{map_of, fits};
+ghost use Rattle.std.specs.Prelude.{◌≡◌, ℕ, ◌≤◌, true, List, length, take, Ok, Option};
+ghost use Rattle.object_map.specs.Map.{map_of, fits, lookup};
+ghost use Rattle.protocol.specs.Descriptions.{message_of};
+ghost use Rattle.protocol.specs.Lookups.{table_of};
+ghost use Rattle.protocol.specs.declared.argument.Argument.{Argument};
+ghost use Rattle.protocol.specs.declared.id.ObjectId.{ObjectId};
 ghost use Rattle.transport.specs.Ends.{End};
-ghost use Rattle.client.specs.Calls.{ended, breach, acknowledged, resting};
-ghost use Rattle.client.specs.Coded.{Leaves, next_reply, Becomes, over_fault, text_lens, number_given, TakesAs};
+ghost use Rattle.transport.specs.Layout.{written};
+ghost use Rattle.transport.specs.Wire.{Arg};
+ghost use Rattle.client.specs.Events.{pass_all};
+ghost use Rattle.client.specs.Calls.{ended, breach, acknowledged, resting, from_display, passing, passed_into, sent_by, next, defined};
+ghost use Rattle.client.specs.Coded.{Leaves, replied_with, next_reply, Becomes, over_fault, text_lens, number_given, error_given, TakesAs, Holding, rooms_in};
 ghost use Rattle.client.specs.declared.object.Object.{Object};
 ghost use Rattle.client.specs.State.{Rooms, moment_of, conn_of, seen_in, with_fault};
 
-use crate::connection::{Connection, HandedEvent, Phase, Round};
+use crate::connection::{Connection, Event, HandedEvent, Phase, Round};
 use crate::object::Object;
 use protocol::argument::{Argument, ArgumentType};
 use protocol::error::{
     ErrorInterface, ProtocolError, ProtocolReason, TransportFault, WaylandError,
 };
 use protocol::id::ObjectId;
-use transport::MAX_TEXT;
+use protocol::interface::MessageDesc;
+use protocol::refusal::Refusal;
+use protocol::table::InterfaceTable;
 use transport::transport::Transport;
+use transport::{MAX_ARGS, MAX_TEXT};
 
 /// What became of the first frame that waits.
 pub enum NextAnswer {
@@ -140,5 +150,182 @@ impl Connection {
                 },
             );
         }
+    }
+
+    // An error event: the round is over with the fault that it tells; its text opens the room for it.
+    fn hear_error(
+        &mut self,
+        client: &[Option<Object>],
+        server: &[Option<Object>],
+        args: &[Argument<ObjectId>],
+        text: &[u8],
+        fault_text: &mut [u8],
+    ) -> NextAnswer
+        requires fit { fits (map_of self.old.map client.now server.now) ≡ true }
+        requires from { 1024 ≤ length text.now }
+        requires to { 1024 ≤ length fault_text.old }
+        ensures answer { text_lens args.now ≤ 1024 → next_reply result ≡ over_fault (error_given (map_of self.old.map client.now server.now) args.now) }
+        ensures left { text_lens args.now ≤ 1024 → Becomes self.old (ended (with_fault (error_given (map_of self.old.map client.now server.now) args.now) (conn_of self.old))) self.new }
+        ensures told { text_lens args.now ≤ 1024 → fault_text.new ≡ written (take (text_lens args.now) text.now) fault_text.old }
+    {
+        let object_id = number_at(args, 0);
+        let found = self.map.find(client, server, object_id).ok().flatten();
+        let len = text_len(args);
+        fault_text[..len].copy_from_slice(&text[..len]);
+        self.over(WaylandError::Protocol(ProtocolError {
+            code: number_at(args, 1),
+            object_id,
+            object_interface: match found {
+                Some(object) => ErrorInterface::Known(object.interface),
+                None => ErrorInterface::Unknown,
+            },
+            reason: ProtocolReason::ErrorEvent {
+                text_len: len as u32,
+            },
+        }))
+    }
+
+    // An event of the display: an error is over, a number that is let go is quiet.
+    fn hear_display(
+        &mut self,
+        client: &mut [Option<Object>],
+        server: &mut [Option<Object>],
+        opcode: u16,
+        args: &[Argument<ObjectId>],
+        text: &[u8],
+        fault_text: &mut [u8],
+    ) -> NextAnswer
+        requires fit { fits (map_of self.old.map client.old server.old) ≡ true }
+        requires from { 1024 ≤ length text.now }
+        requires to { 1024 ≤ length fault_text.old }
+        ensures { (xs : List Arg) → Holding xs args.now text.now → (a : List (Argument ObjectId)) (b : List ℕ) (e : End) → Leaves (from_display (moment_of self.old client.old server.old e) (rooms_in a b fault_text.old) opcode xs) (Ok (next_reply result)) (moment_of self.new client.new server.new e) (rooms_in a b fault_text.new) }
+    {
+        if opcode == 0 {
+            return self.hear_error(client, server, args, text, fault_text);
+        }
+        self.acknowledge(client, server, number_at(args, 0));
+        NextAnswer::Quiet(Round {
+            connection: self.number,
+        })
+    }
+
+    // An event of another object: its arguments are passed; then it is handed out, unless its receiver is destroyed.
+    fn hear_event(
+        &mut self,
+        table: &InterfaceTable<'_>,
+        client: &mut [Option<Object>],
+        server: &mut [Option<Object>],
+        settled: u64,
+        sender: u32,
+        opcode: u16,
+        receiver: &Object,
+        desc: &MessageDesc<'_>,
+        args: &mut [Argument<ObjectId>],
+    ) -> NextAnswer
+        requires { fits (map_of self.old.map client.old server.old) ≡ true }
+        ensures { (e : End) (r : Rooms) → Leaves (passing (moment_of self.old client.old server.old e) r settled sender opcode receiver.now (message_of desc.now) (pass_all (table_of table.now) receiver.now (message_of desc.now) (map_of self.old.map client.old server.old) self.old.last_serial args.old)) (Ok (next_reply result)) (moment_of self.new client.new server.new e) (passed_into args.new r) }
+    {
+        let child = match self.pass_all(table, client, server, receiver, desc, args) {
+            Ok(child) => child,
+            Err(reason) => return self.breach(reason),
+        };
+        if receiver.client_destroyed {
+            return NextAnswer::Quiet(Round {
+                connection: self.number,
+            });
+        }
+        self.phase = Phase::Handed(
+            settled,
+            Event {
+                receiver: receiver.handle(sender),
+                data: receiver.data,
+                destroys: desc.is_destructor,
+                child,
+            },
+        );
+        NextAnswer::Handed {
+            event: HandedEvent {
+                connection: self.number,
+                number: sender,
+                serial: receiver.serial,
+            },
+            receiver: receiver.handle(sender),
+            opcode,
+        }
+    }
+
+    // The first frame: its sender has to be there and to have the opcode, and its arguments to fit; then it is taken.
+    fn hear<E: Transport>(
+        &mut self,
+        table: &InterfaceTable<'_>,
+        client: &mut [Option<Object>],
+        server: &mut [Option<Object>],
+        end: &mut E,
+        settled: u64,
+        sender: u32,
+        opcode: u16,
+        args: &mut [Argument<ObjectId>],
+        text: &mut [u8],
+        fault_text: &mut [u8],
+    ) -> NextAnswer
+        requires fit { fits (map_of self.old.map client.old server.old) ≡ true }
+        requires places { 20 ≤ length args.old }
+        requires text { 1024 ≤ length text.old }
+        requires told { 1024 ≤ length fault_text.old }
+        ensures { Leaves (sent_by (table_of table.now) (moment_of self.old client.old server.old (E.Transport.means end.old)) (rooms_in args.old text.old fault_text.old) settled sender opcode (lookup sender (map_of self.old.map client.old server.old))) (Ok (next_reply result)) (moment_of self.new client.new server.new (E.Transport.means end.new)) (rooms_in args.new text.new fault_text.new) }
+    {
+        let found = self.map.find(client, server, sender).ok().flatten();
+        let Some(receiver) = found else {
+            return self.breach(ProtocolReason::Malformed);
+        };
+        let Some(desc) = table.event(receiver.interface, opcode) else {
+            return self.breach(ProtocolReason::Malformed);
+        };
+        let Some(count) = take_first(end, desc.signature, args, text) else {
+            return self.breach(ProtocolReason::Malformed);
+        };
+        let args = &mut args[..count];
+        if sender == 1 {
+            return self.hear_display(client, server, opcode, args, text, fault_text);
+        }
+        self.hear_event(
+            table, client, server, settled, sender, opcode, &receiver, &desc, args,
+        )
+    }
+
+    /// What comes next in an open round, into rooms that any frame fits into.
+    pub(crate) fn next_event<E: Transport>(
+        &mut self,
+        table: &InterfaceTable<'_>,
+        client: &mut [Option<Object>],
+        server: &mut [Option<Object>],
+        end: &mut E,
+        round: Round,
+        args: &mut [Argument<ObjectId>],
+        text: &mut [u8],
+        fault_text: &mut [u8],
+    ) -> Result<NextAnswer, (Refusal, Round)>
+        ensures { Leaves (defined (table_of table.now) (moment_of self.old client.old server.old (E.Transport.means end.old)) (next round (rooms_in args.old text.old fault_text.old))) (replied_with next_reply result) (moment_of self.new client.new server.new (E.Transport.means end.new)) (rooms_in args.new text.new fault_text.new) }
+    {
+        let lent = self.map.fits(client, server)
+            && args.len() >= MAX_ARGS
+            && text.len() >= MAX_TEXT
+            && fault_text.len() >= MAX_TEXT;
+        if !lent {
+            return Err((Refusal::BadRoom, round));
+        }
+        let Phase::Reading(settled) = self.phase else {
+            return Err((Refusal::BadToken, round));
+        };
+        if round.connection != self.number {
+            return Err((Refusal::BadToken, round));
+        }
+        let Round { connection: _ } = round;
+        Ok(match end.first() {
+            Ok((sender, opcode)) => self.hear(
+                table, client, server, end, settled, sender, opcode, args, text, fault_text,
+            ),
+            Err(fault) => self.rest(settled, fault),
+        })
     }
 }
