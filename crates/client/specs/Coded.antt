@@ -1,23 +1,25 @@
 -- What a call in the code comes to, in the words of the definitions.
-use Rattle.std.specs.Prelude.{◌≡◌, ℕ, ◌≤◌, true, List, length, take, Some, None, Ok, Err, sum_by, Option, Result}
+use Rattle.std.specs.Prelude.{◌≡◌, ℕ, ◌≤◌, true, false, List, length, take, Some, None, Ok, Err, sum_by, Option, Result}
 use Rattle.protocol.specs.declared.refusal.Refusal.{Refusal}
+use Rattle.protocol.specs.declared.refusal.Refusal.TheVariants.{BadRoom}
 use Rattle.protocol.specs.Descriptions.{Message, message_of}
 use Rattle.protocol.specs.declared.interface.MessageDesc.{MessageDesc}
-use Rattle.object_map.specs.Map.{Map, fits, lookup}
+use Rattle.object_map.specs.Map.{Map, fits, lookup, lawful}
 use Rattle.transport.specs.Drafts.{draft_of, with_child, spoken, Whole}
 use Rattle.std.specs.List.{slice_get}
-use Rattle.transport.specs.Ends.{End, Waiting, take_of, leaving, putting}
+use Rattle.transport.specs.Ends.{End, Grounded, Waiting, take_of, leaving, putting}
 use Rattle.transport.specs.Wire as wire
 use Rattle.transport.specs.Layout.{args_of, laid, written}
 use Rattle.transport.specs.Wire.{Arg, message, clipped, texts}
 use Rattle.transport.specs.declared.outgoing.Outgoing.{Outgoing}
 use Rattle.client.specs.Calls.{interface_found, with_put}
 use Rattle.client.specs.Events.{Walked, Passing, Passed}
-use Rattle.client.specs.Requests.{Request, Sending, Child, placing}
+use Rattle.client.specs.Requests.{Table, Request, Sending, Child, placing}
+use Rattle.client.specs.Runs.{creation, created, Run}
 use Rattle.client.specs.declared.requests.Sending.{Sending as CodeSending}
 use Rattle.client.specs.declared.object.Object.{Object}
 use Rattle.client.specs.declared.requests.Request.{Request as CodeRequest}
-use Rattle.client.specs.State.{Conn, conn_of, with_serial, Moment, Rooms, Reply, done, waits, round, faulted, quiet, handed_out, over, settled, sent, Left}
+use Rattle.client.specs.State.{Conn, conn_of, with_serial, Moment, moment_of, Rooms, Reply, done, waits, round, faulted, quiet, handed_out, over, settled, sent, Left}
 use Rattle.client.specs.declared.connection.Connection.{Connection}
 use Rattle.client.specs.declared.error.CallError.{CallError}
 use Rattle.client.specs.declared.error.CallError.TheVariants.{Refused, Fault as CallFault}
@@ -190,6 +192,16 @@ Holding xs args text = (args ≡ laid 0 xs) × (length (texts xs) ≤ 1024) × (
 -- the rooms that next is lent
 abbrev pub rooms_in : List (Argument ObjectId) → List ℕ → List ℕ → Rooms
 rooms_in args text fault_text = record { args = args; text = text; fault_text = fault_text }
+
+-- a creation: over lawful rooms a connection as it is created, over whatever transport; others are refused and stay
+abbrev pub Created : ℕ → List (Option Object) → List (Option Object) → Result Connection Refusal → List (Option Object) → List (Option Object) → Type 0
+Created number c s (Ok k) c' s' = (lawful c s ≡ true) × ((e : End) → moment_of k c' s' e ≡ created number c s e)
+Created number c s (Err r) c' s' = (lawful c s ≡ false) × (r ≡ BadRoom) × (c' ≡ c) × (s' ≡ s)
+
+-- and a run begins there
+abbrev pub Begins : ℕ → List (Option Object) → List (Option Object) → Result Connection Refusal → List (Option Object) → List (Option Object) → Type 0
+Begins number c s (Ok k) c' s' = (t : Table) (e : End) → Grounded e → Run t (creation number (length c) (length s)) (moment_of k c' s' e)
+Begins number c s (Err r) c' s' = Unit {0}
 
 -- the connection alone becomes this: its map stays
 abbrev pub Becomes : Connection → Conn → Connection → Type 0

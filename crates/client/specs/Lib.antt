@@ -5,6 +5,7 @@ pub mod Course
 pub mod Events
 pub mod Law
 pub mod Ledger
+pub mod Promise
 pub mod Reached
 pub mod Requests
 pub mod Runs

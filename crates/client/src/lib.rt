@@ -1,14 +1,15 @@
 //! The client side of a Wayland connection: what each call answers and leaves, and the law over whole runs.
 #![tactic(auto)]
 
+mod calls;
 pub mod connection;
 pub mod error;
 pub mod laws;
 mod lookups;
-mod next;
+pub mod next;
 pub mod object;
 mod passing;
-mod reads;
-mod requests;
-mod sending;
-mod settling;
+pub mod reads;
+pub mod requests;
+pub mod sending;
+pub mod settling;

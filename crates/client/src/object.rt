@@ -5,6 +5,7 @@ ghost use Rattle.client.specs.Events.{newborn};
 ghost use Rattle.client.specs.Requests.{child_of};
 ghost use Rattle.client.specs.State.{notice_of, handle_of};
 
+use protocol::core_interfaces::DISPLAY;
 use protocol::id::ObjectId;
 
 /// What a slot holds: an object of the connection.
@@ -37,6 +38,16 @@ pub struct ChildSpec {
 }
 
 impl Object {
+    /// The display, as every connection begins with it.
+    pub(crate) const DISPLAY: Object = Object {
+        interface: DISPLAY,
+        version: 1,
+        data: 0,
+        serial: 0,
+        client_destroyed: false,
+        server_destroyed: false,
+    };
+
     /// The handle of this object at a number.
     pub(crate) fn handle(&self, number: u32) -> ObjectId
         ensures { result ≡ handle_of number self.now }
