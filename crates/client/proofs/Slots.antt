@@ -5,7 +5,7 @@ use Rattle.std.proofs.lemmas.List.{get_or_past, length-set, length-map}
 use Rattle.std.proofs.lemmas.Bool.{cases_lt, cases_Bool, lt-ltb, le-ltb, eq-eqb, ne_eqb, eqb-true, ltb-true, and_parts, and_from, and_left, and_right, or_left, or_right, or_from, cond-true, cond-false}
 use Rattle.std.proofs.lemmas.Bool.Decides.{nat_tests}
 use Rattle.object_map.specs.Laws.{occupied, occupied_in}
-use Rattle.object_map.specs.Map.{Map, map_of, with_client, with_server, lawful, fits, at_place, lookup, remove_at, insert_at, update_at, in_server}
+use Rattle.object_map.specs.Map.{Map, map_of, fresh, with_client, with_server, lawful, fits, at_place, lookup, remove_at, insert_at, update_at, in_server}
 use Rattle.object_map.specs.Number.{place}
 use Rattle.object_map.specs.Runs.{first}
 use Rattle.object_map.specs.Store.{Store, at, emptied, fill, vacate, insert, first_free, insert_free, rewrite, rewrite_slot}
@@ -388,7 +388,7 @@ pub record Opened (c s : List (Option Object)) (m : Map Object) : Type 0 where
 
 -- both rooms emptied
 abbrev bare : List (Option Object) → List (Option Object) → Map Object
-bare c s = map_of (record { client_places = length c; server_places = length s; client_len = 0; server_len = 0 }) (emptied c) (emptied s)
+bare c s = map_of (record { client = fresh (length c); server = fresh (length s) }) (emptied c) (emptied s)
 
 bare_at : (p : Option Place) (c s : List (Option Object)) → (at_place p (bare c s) ≡ None) × (reached_at p (bare c s) ≡ false)
 bare_at None c s = (refl, refl)

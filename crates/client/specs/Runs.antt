@@ -1,6 +1,6 @@
 -- Whole runs: a connection's past from its creation on, call by call, with whatever the world did in between.
 use Rattle.std.specs.Prelude.{◌≡◌, ℕ, true, false, List, length, None, Option}
-use Rattle.object_map.specs.Map.{map_of, insert_at, lawful}
+use Rattle.object_map.specs.Map.{map_of, fresh, insert_at, lawful}
 use Rattle.object_map.specs.Number.{place}
 use Rattle.object_map.specs.Store.{emptied}
 use Rattle.transport.specs.Ends.{End, Grounded}
@@ -22,7 +22,7 @@ opened number = record { number = number; last_serial = 0; fault = None; reads =
 abbrev pub created : ℕ → List (Option Object) → List (Option Object) → End → Moment
 created number c s e = record {
   conn = opened number;
-  slots = (insert_at (place 1) display_object (map_of (record { client_places = length c; server_places = length s; client_len = 0; server_len = 0 }) (emptied c) (emptied s))).1;
+  slots = (insert_at (place 1) display_object (map_of (record { client = fresh (length c); server = fresh (length s) }) (emptied c) (emptied s))).1;
   end = e;
 }
 

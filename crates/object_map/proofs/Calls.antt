@@ -1,7 +1,6 @@
 -- What each call does to a map, by number: the definitions of the calls come to the laws.
-use Rattle.std.proofs.Common.{◌≡◌, ℕ, ◌+◌, ◌-◌, ◌^◌, ◌<◌, ◌≤◌, true, false, eqb, ltb, ◌≢◌, ◌⊎◌, length, is_some, Some, None, Ok, Err, Option, Result, sym, refl, ap, ◌∙◌, subst, inl, inr, arith}
+use Rattle.std.proofs.Common.{◌≡◌, ℕ, ◌+◌, ◌-◌, ◌^◌, ◌<◌, ◌≤◌, true, eqb, ltb, ◌≢◌, ◌⊎◌, length, is_some, Some, None, Ok, Err, Option, Result, sym, refl, ap, ◌∙◌, subst, inl, inr, arith}
 use Rattle.std.proofs.lemmas.Bool.{cases_lt, cases_Bool, lt-ltb, le-ltb, cond-true, cond-false, eqb-true, and_parts}
-use Rattle.std.proofs.lemmas.List.{get_or_past}
 use Rattle.object_map.specs.Laws.{occupied, occupied_in, Others, Put, Emptied, Changed, Smallest, Inserts, InsertsNew, Removes, Updates}
 use Rattle.object_map.specs.Map.{Map, with_client, with_server, fits, at_place, lookup, guarded, remove_at, removing, insert_at, inserting_at, insert_new, inserting_new, update_at, updating}
 use Rattle.object_map.specs.Number.{place}
@@ -10,9 +9,9 @@ use Rattle.object_map.specs.declared.number.Place.{Place}
 use Rattle.object_map.specs.declared.number.Place.TheVariants.{Client, Server}
 use Rattle.object_map.specs.declared.refusal.Refusal.{Refusal}
 use Rattle.object_map.specs.declared.refusal.Refusal.TheVariants.{Vacant, ClientFull, Rooms, Gap, Occupied, NoSlot}
-use Rattle.object_map.proofs.Free.{free_le, free_empty, free_below}
+use Rattle.object_map.proofs.Free.{held_within, free_le, free_empty, free_below}
 use Rattle.object_map.proofs.Places.{place_apart, client_place}
-use Rattle.object_map.proofs.Stores.{one, at_below, at_above, write, write_same, write_other, write_count, fill_same, fill_other, fill_count, vacate_same, vacate_other, vacate_count}
+use Rattle.object_map.proofs.Stores.{one, write, write_same, write_other, write_count, fill_same, fill_other, fill_count, vacate_same, vacate_other, vacate_count, none_is}
 
 -- the number n lies at i in a store s of m, which is s' in m'
 pub record Focus {R : Type 0} (n i : ℕ) (m m' : Map R) (s s' : Store R) : Type 0 where
@@ -75,19 +74,6 @@ rewritten {R} f n i x m m' s foc u l e =
       as_many = omega (arith, foc.counts, w');
     }
 
-none_some : {R : Type 0} (x : R) → None ≡ Some x → ⊥
-none_some x e = let z : ◌≡◌ {A = ℕ} 0 1 = cc in omega arith
-
-rooms_vacant : {P : Type 0} → Rooms ≡ Vacant → P
-rooms_vacant e = let z : ◌≡◌ {A = ℕ} 0 1 = cc in absurd (omega arith)
-
-rooms_full : {P : Type 0} → Rooms ≡ ClientFull → P
-rooms_full e = let z : ◌≡◌ {A = ℕ} 0 1 = cc in absurd (omega arith)
-
-none_is : {R : Type 0} (o : Option R) → is_some o ≡ false → o ≡ None
-none_is None e = refl
-none_is (Some x) e = cc
-
 -- an insertion at a place: accepted with all that it asks, or refused with the store as it was
 pub insert_cases : {R : Type 0} (r : R) (i : ℕ) (s : Store R) → ((insert r i s ≡ (Ok tt, fill r i s)) × (i ≤ s.used) × (i < length s.slots) × (at i s ≡ None)) ⊎ ((e : Refusal) × (insert r i s ≡ (Err e, s)))
 insert_cases r i s =
@@ -103,16 +89,6 @@ insert_cases r i s =
     ]
 
 -- a change at a place: of a record that is there, or refused with the store as it was
-some_within : {R : Type 0} (i : ℕ) (s : Store R) (x : R) → at i s ≡ Some x → (i < s.used) × (i < length s.slots)
-some_within i s x e =
-    elim (cases_lt i s.used) [
-      | inl u ↦ elim (cases_lt i (length s.slots)) [
-        | inl l ↦ (u, l)
-        | inr past ↦ let z : None ≡ Some x = sym (at_below i s u ∙ get_or_past s.slots i None past) ∙ e in absurd (none_some x z)
-      ]
-      | inr past ↦ let z : None ≡ Some x = sym (at_above i s past) ∙ e in absurd (none_some x z)
-    ]
-
 rewrite_cases : {R : Type 0} (f : R → R) (i : ℕ) (s : Store R) (o : Option R) → at i s ≡ o → ((x : R) × (at i s ≡ Some x) × (rewrite f i s ≡ (Ok tt, write (Some (f x)) i s))) ⊎ ((at i s ≡ None) × (rewrite f i s ≡ (Err Vacant, s)))
 rewrite_cases f i s None e = inr (e, ap (λ o. rewrite_slot f o i s) e)
 rewrite_cases f i s (Some x) e = inl (x, e, ap (λ o. rewrite_slot f o i s) e)
@@ -132,7 +108,7 @@ updated_in {R} f n i m s into focus same =
     elim (rewrite_cases f i s (at i s) refl) [
       | inl c ↦
           let x = c.0 in
-          let w = some_within i s x c.1 in
+          let w = held_within i s (ap is_some c.1) in
           subst P (sym c.2) (rewritten f n i x m (into (write (Some (f x)) i s)) s (focus (write (Some (f x)) i s)) w.0 w.1 c.1)
       | inr c ↦ subst P (sym c.1) (same, λ _. (focus s).before ∙ c.0)
     ]
@@ -171,7 +147,7 @@ insert_law : {R : Type 0} (n : ℕ) (r : R) (m : Map R) → Inserts n r m (inser
 insert_law n r m = by_fit m (insert_at (place n) r m) (Inserts n r m) (λ _. insert_place n (place n) r m refl) refl
 
 update_law : {R : Type 0} (f : R → R) (n : ℕ) (m : Map R) → Updates f n m (updating f n m).0 (updating f n m).1
-update_law f n m = by_fit m (update_at f (place n) m) (Updates f n m) (λ _. update_place f n (place n) m refl) (refl, λ e. rooms_vacant e)
+update_law f n m = by_fit m (update_at f (place n) m) (Updates f n m) (λ _. update_place f n (place n) m refl) (refl, λ e. absurd (cc e))
 
 remove_law : {R : Type 0} (n : ℕ) (m : Map R) → Removes n m (removing n m).0 (removing n m).1
 remove_law n m = by_fit m (Ok tt, remove_at (place n) m) (Removes n m) (λ _. remove_place n (place n) m refl) refl
@@ -201,7 +177,7 @@ new_in {R} r m fit few =
     ]
 
 insert_new_law : {R : Type 0} (r : R) (m : Map R) → m.client_places < 2 ^ 16 → InsertsNew r m (inserting_new r m).0 (inserting_new r m).1
-insert_new_law r m few = by_fit m (insert_new m (insert_free r m.client)) (InsertsNew r m) (λ fit. new_in r m fit few) (refl, λ e. rooms_full e)
+insert_new_law r m few = by_fit m (insert_new m (insert_free r m.client)) (InsertsNew r m) (λ fit. new_in r m fit few) (refl, λ e. absurd (cc e))
 
 -- the same of what a call answered and left
 pub inserts : {R : Type 0} (n : ℕ) (r : R) (m m' : Map R) (a : Result (Unit {0}) Refusal) → (a, m') ≡ inserting_at n r m → Inserts n r m a m'

@@ -3,3 +3,4 @@ pub mod Free
 pub mod Places
 pub mod Runs
 pub mod Stores
+pub mod Updates

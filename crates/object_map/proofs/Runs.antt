@@ -1,7 +1,7 @@
 -- The law over whole runs.
 use Rattle.std.proofs.Common.{◌≡◌, ℕ, ◌+◌, ◌-◌, ◌<◌, ◌≤◌, max, true, false, cond, ◌||◌, eqb, ltb, List, ◌∷◌, length, is_some, Some, None, Ok, Err, Option, Result, sym, refl, ap, ◌∙◌, subst, inl, inr, arith}
 use Rattle.std.proofs.lemmas.Bool.{cases_lt, or_left, or_right, and_from, eq-eqb, false≢true}
-use Rattle.object_map.specs.Map.{Map, map_of, creation, lawful, with_client, with_server, at_place, remove_at, insert_at, insert_new, update_at}
+use Rattle.object_map.specs.Map.{Map, map_of, creation, fresh, lawful, with_client, with_server, at_place, remove_at, insert_at, insert_new, update_at}
 use Rattle.object_map.specs.Number.{place}
 use Rattle.object_map.specs.Runs.{Call, find_call, remove_call, insert_at_call, insert_new_call, update_call, after, History, noted, using_now, Run, created, lends, calls, member, first, dense, Law, Stands, Begins}
 use Rattle.object_map.specs.Store.{Store, at, emptied, fill, insert_free, first_free, rewrite_slot}
@@ -11,7 +11,7 @@ use Rattle.object_map.specs.declared.number.Place.TheVariants.{Client, Server}
 use Rattle.object_map.specs.declared.refusal.Refusal.{Refusal}
 use Rattle.object_map.specs.declared.refusal.Refusal.TheVariants.{ClientFull, Rooms}
 use Rattle.object_map.proofs.Calls.{by_fit, insert_cases}
-use Rattle.object_map.proofs.Free.{free_le}
+use Rattle.object_map.proofs.Free.{held_within, free_le}
 use Rattle.object_map.proofs.Places.{place_client, place_server}
 use Rattle.object_map.proofs.Stores.{at_above}
 
@@ -130,14 +130,14 @@ nothing_at (Some (Client i)) m c s = ap is_some (at_above i m.client (omega arit
 nothing_at (Some (Server i)) m c s = ap is_some (at_above i m.server (omega arith))
 
 abbrev lens : Result ObjectMap Refusal → ℕ
-lens (Ok o) = o.client_len + o.server_len
+lens (Ok o) = o.client.len + o.server.len
 lens (Err _) = 0
 
-unused : {R : Type 0} (c s c' s' : List (Option R)) (o : ObjectMap) → creation c s ≡ (Ok o, c', s') → (o.client_len ≡ 0) × (o.server_len ≡ 0)
+unused : {R : Type 0} (c s c' s' : List (Option R)) (o : ObjectMap) → creation c s ≡ (Ok o, c', s') → (o.client.len ≡ 0) × (o.server.len ≡ 0)
 unused {R} c s c' s' o e =
     let none : lens (creation c s).0 ≡ 0 =
-    elim (lawful c s) as (λ b. lens (cond {A = Result ObjectMap Refusal × List (Option R) × List (Option R)} b (Ok (record { client_places = length c; server_places = length s; client_len = 0; server_len = 0 }), emptied c, emptied s) (Err Rooms, c, s)).0 ≡ 0) [ true ↦ refl | false ↦ refl ] in
-    let sum : lens (creation c s).0 ≡ o.client_len + o.server_len = ap (λ d. lens d.0) e in
+    elim (lawful c s) as (λ b. lens (cond {A = Result ObjectMap Refusal × List (Option R) × List (Option R)} b (Ok (record { client = fresh (length c); server = fresh (length s) }), emptied c, emptied s) (Err Rooms, c, s)).0 ≡ 0) [ true ↦ refl | false ↦ refl ] in
+    let sum : lens (creation c s).0 ≡ o.client.len + o.server.len = ap (λ d. lens d.0) e in
     (omega arith, omega arith)
 
 kept : {R : Type 0} {h : History} {m : Map R} → Run h m → Kept h m
@@ -147,20 +147,12 @@ kept (created c s c' s' o e) =
 kept (lends {h} {m} run c s) = let k = kept run in record { clients = k.clients; servers = k.servers; order = k.order }
 kept (calls {h} {m} run c) = (goes c h m (kept run)).0
 
--- what holds a record lies below the length
-held_below : {R : Type 0} (i : ℕ) (s : Store R) → is_some (at i s) ≡ true → i < s.used
-held_below i s e =
-    elim (cases_lt i s.used) [
-      | inl u ↦ u
-      | inr past ↦ let z : false ≡ true = sym (ap is_some (at_above i s past)) ∙ e in absurd (false≢true z)
-    ]
-
 known_at : {R : Type 0} (n : ℕ) (p : Option Place) (h : History) (m : Map R) → place n ≡ p → Kept h m → is_some (at_place p m) ≡ true → member n h ≡ true
 known_at n None h m e k held = absurd (false≢true held)
 known_at n (Some (Client i)) h m e k held =
     let p : n ≡ 1 + i = omega (arith, place_client n i e) in
-    ap (λ x. member x h) p ∙ k.clients i (held_below i m.client held)
-known_at n (Some (Server i)) h m e k held = ap (λ x. member x h) (place_server n i e) ∙ k.servers i (held_below i m.server held)
+    ap (λ x. member x h) p ∙ k.clients i ((held_within i m.client held).0)
+known_at n (Some (Server i)) h m e k held = ap (λ x. member x h) (place_server n i e) ∙ k.servers i ((held_within i m.server held).0)
 
 pub law : {R : Type 0} {h : History} {m : Map R} → Run h m → Law h m
 law {R} {h} {m} run = let k = kept run in record { in_order = k.order; known = λ n held. known_at n (place n) h m refl k held }

@@ -1,5 +1,5 @@
 -- What one write to a store changes.
-use Rattle.std.proofs.Common.{◌≡◌, ℕ, ◌+◌, ◌<◌, ◌≤◌, max, cond, ltb, ◌≢◌, List, length, get_or, take, set, is_some, Some, None, Option, ap, ◌∙◌, inl, inr, arith}
+use Rattle.std.proofs.Common.{◌≡◌, ℕ, ◌+◌, ◌<◌, ◌≤◌, max, false, cond, ltb, ◌≢◌, List, length, get_or, take, set, is_some, Some, None, Option, refl, ap, ◌∙◌, inl, inr, arith}
 use lib.Seq.{take-set-lt}
 use Rattle.std.proofs.lemmas.List.{get_or-set_same, get_or-set_other, get_or_past, set_past, get_or-take, length-take, take_more_set}
 use Rattle.std.proofs.lemmas.List.Sums.{sum_by-set, sum_by_push}
@@ -111,3 +111,7 @@ vacate_count {R} i s =
           ]
       | inr past ↦ omega (arith, ap occupied_in (vacate_above i s past), ap one (at_above i s past))
     ]
+
+pub none_is : {R : Type 0} (o : Option R) → is_some o ≡ false → o ≡ None
+none_is None e = refl
+none_is (Some x) e = cc

@@ -7,6 +7,7 @@ use Rattle.object_map.specs.declared.number.Place.TheVariants.{Client, Server}
 use Rattle.object_map.specs.declared.refusal.Refusal.{Refusal}
 use Rattle.object_map.specs.declared.refusal.Refusal.TheVariants.{Vacant, Rooms, Null}
 use Rattle.object_map.specs.declared.map.ObjectMap.{ObjectMap}
+use Rattle.object_map.specs.declared.range.Range.{Range}
 
 -- both stores, and how many places each room had at creation
 pub record Map (R : Type 0) : Type 0 where
@@ -18,10 +19,10 @@ pub record Map (R : Type 0) : Type 0 where
 -- the map that remembered lengths and lent rooms make
 abbrev pub map_of : {R : Type 0} → ObjectMap → List (Option R) → List (Option R) → Map R
 map_of o c s = record {
-  client = store_of c o.client_len;
-  server = store_of s o.server_len;
-  client_places = o.client_places;
-  server_places = o.server_places;
+  client = store_of c o.client.len;
+  server = store_of s o.server.len;
+  client_places = o.client.places;
+  server_places = o.server.places;
 }
 
 -- a map with another client store, and with another server store
@@ -35,11 +36,15 @@ with_server m s = record { client = m.client; server = s; client_places = m.clie
 abbrev pub lawful : {R : Type 0} → List (Option R) → List (Option R) → Bool
 lawful c s = nat_lt 0 (length c) && (nat_lt (length c) (2 ^ 16) && nat_lt (length s) (2 ^ 16))
 
+-- a range of n places with nothing in use
+abbrev pub fresh : ℕ → Range
+fresh n = record { places = n; len = 0 }
+
 -- creation: lawful rooms are emptied and their lengths remembered
 abbrev pub creation : {R : Type 0} → List (Option R) → List (Option R) → Result ObjectMap Refusal × List (Option R) × List (Option R)
 creation c s =
     cond (lawful c s)
-    (Ok (record { client_places = length c; server_places = length s; client_len = 0; server_len = 0 }), emptied c, emptied s)
+    (Ok (record { client = fresh (length c); server = fresh (length s) }), emptied c, emptied s)
     (Err Rooms, c, s)
 
 -- the rooms that are lent have their lengths at creation

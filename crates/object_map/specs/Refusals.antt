@@ -1,5 +1,5 @@
--- The number of each refusal.
-use Rattle.std.specs.Prelude.{ℕ}
+-- The number of each refusal, and its words.
+use Rattle.std.specs.Prelude.{ℕ, List, codes}
 use Rattle.object_map.specs.declared.refusal.Refusal.{Refusal}
 use Rattle.object_map.specs.declared.refusal.Refusal.TheVariants.{Vacant, ClientFull, Rooms, Null, Occupied, Gap, NoSlot}
 
@@ -12,3 +12,13 @@ number Null = 21
 number Occupied = 22
 number Gap = 23
 number NoSlot = 24
+
+-- what is shown of each refusal
+abbrev pub text : Refusal → List ℕ
+text Vacant = codes "no record has this number"
+text ClientFull = codes "the client room is full"
+text Rooms = codes "a room is out of range or not of its length at creation"
+text Null = codes "the number 0 names no slot"
+text Occupied = codes "the number is in use"
+text Gap = codes "the number before it has never been used"
+text NoSlot = codes "the room has no place for this number"

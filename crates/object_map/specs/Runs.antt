@@ -1,6 +1,7 @@
 -- Whole runs: a map from its creation on, through any calls in any order.
-use Rattle.std.specs.Prelude.{◌≡◌, ℕ, ◌-◌, ◌≤◌, Bool, true, false, ◌&&◌, ◌||◌, List, [], ◌∷◌, is_some, Ok, Err, Option, Result, ◌==◌}
-use Rattle.object_map.specs.Map.{Map, map_of, creation, lookup, removing, inserting_at, inserting_new, updating}
+use Rattle.std.specs.Prelude.{◌≡◌, ℕ, ◌-◌, ◌≤◌, Bool, true, false, ◌&&◌, ◌||◌, List, [], ◌∷◌, is_some, Some, Ok, Err, Option, Result, ◌==◌}
+use Rattle.object_map.specs.Laws.{Updates}
+use Rattle.object_map.specs.Map.{Map, map_of, creation, lookup, finding, removing, inserting_at, inserting_new, updating}
 use Rattle.object_map.specs.Store.{store_of}
 use Rattle.object_map.specs.declared.refusal.Refusal.{Refusal}
 use Rattle.object_map.specs.declared.map.ObjectMap.{ObjectMap}
@@ -78,3 +79,15 @@ Stands c m m' =
 abbrev pub Begins : {R : Type 0} → Result ObjectMap Refusal → List (Option R) → List (Option R) → Type 0
 Begins (Ok o) c s = Run [] (map_of o c s) × ((n : ℕ) → is_some (lookup n (map_of o c s)) ≡ false)
 Begins (Err _) c s = Unit {0}
+
+-- what update comes to by f: what it answers and leaves, what that is to a reader of the map, and that each run goes on
+pub record UpdatesWith {R : Type 0} (f : R → R) (n : ℕ) (m : Map R) (answer : Result (Unit {0}) Refusal) (m' : Map R) : Type 0 where
+  pub defined : (answer, m') ≡ updating f n m
+  pub changes : Updates f n m answer m'
+  pub stands : Stands (update_call f n) m m'
+
+-- what update comes to by a call: the map is updated by a function that gives, at the record that is found, what the call may give
+pub record UpdatesBy {R : Type 0} (may_give : R → R → Type 0) (n : ℕ) (m : Map R) (answer : Result (Unit {0}) Refusal) (m' : Map R) : Type 0 where
+  pub f : R → R
+  pub follows : (r : R) → finding n m ≡ Ok (Some r) → may_give r (f r)
+  pub updates : UpdatesWith f n m answer m'

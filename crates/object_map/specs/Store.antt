@@ -1,5 +1,5 @@
 -- A store: one range's room of slots, and how many of its places have been in use.
-use Rattle.std.specs.Prelude.{ℕ, ◌+◌, max, cond, List, map, length, take, is_some, Some, None, Ok, Err, Option, Result, nat_lt, slice_index_or, slice_set}
+use Rattle.std.specs.Prelude.{◌≡◌, ℕ, ◌+◌, max, cond, List, map, length, take, is_some, Some, None, Ok, Err, Option, Result, nat_lt, slice_index_or, slice_set}
 use Rattle.std.specs.List.{prefix_len}
 use Rattle.object_map.specs.declared.refusal.Refusal.{Refusal}
 use Rattle.object_map.specs.declared.refusal.Refusal.TheVariants.{Vacant, ClientFull, Occupied, Gap, NoSlot}
@@ -51,3 +51,12 @@ rewrite_slot f (Some r) i s = (Ok tt, store_of (slice_set s.slots i (Some (f r))
 -- the record at a place changed, where there is one
 abbrev pub rewrite : {R : Type 0} → (R → R) → ℕ → Store R → Result (Unit {0}) Refusal × Store R
 rewrite f i s = rewrite_slot f (at i s) i s
+
+-- what a call that may give r' for r leaves and answers, by what the slot holds
+abbrev pub RewritesSlot : {R : Type 0} → (R → R → Type 0) → Option R → ℕ → Store R → Result (Unit {0}) Refusal → Store R → Type 0
+RewritesSlot may_give None i s answer s' = (answer ≡ Err Vacant) × (s' ≡ s)
+RewritesSlot may_give (Some r) i s answer s' = (r' : _) × may_give r r' × (answer ≡ Ok tt) × (s' ≡ store_of (slice_set s.slots i (Some r')) s.used)
+
+-- the record at a place changed by a call, where there is one
+abbrev pub RewritesBy : {R : Type 0} → (R → R → Type 0) → ℕ → Store R → Result (Unit {0}) Refusal → Store R → Type 0
+RewritesBy may_give i s answer s' = RewritesSlot may_give (at i s) i s answer s'

@@ -6,6 +6,5 @@
 
 pub mod map;
 pub mod number;
+mod range;
 pub mod refusal;
-mod store;
-pub mod update;

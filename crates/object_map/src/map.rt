@@ -6,24 +6,21 @@
 mod calls;
 
 ghost use Rattle.std.specs.Prelude.{◌≡◌};
-ghost use Rattle.object_map.specs.Map.{map_of, creation, finding, removing, inserting_at, inserting_new, updating};
-ghost use Rattle.object_map.specs.Laws.{Inserts, InsertsNew, Removes, Updates};
-ghost use Rattle.object_map.specs.Runs.{Stands, Begins, find_call, remove_call, insert_at_call, insert_new_call, update_call};
+ghost use Rattle.object_map.specs.Map.{map_of, creation, finding, removing, inserting_at, inserting_new};
+ghost use Rattle.object_map.specs.Laws.{Inserts, InsertsNew, Removes};
+ghost use Rattle.object_map.specs.Runs.{Stands, Begins, find_call, remove_call, insert_at_call, insert_new_call, UpdatesBy};
 
-use super::refusal::Refusal;
-use super::update::Update;
+use crate::range::Range;
+use crate::refusal::Refusal;
 
 /// The most places that a room may have.
 pub const MAX_PLACES: usize = 65535;
 
-/// What the map remembers between calls: how many places each room had at creation, and how many of them, from the
-/// start, have been in use.
+/// What the map remembers of its two ranges between calls.
 #[derive(Clone, Copy, PartialEq, Eq, Debug)]
 pub struct ObjectMap {
-    client_places: u16,
-    server_places: u16,
-    client_len: u16,
-    server_len: u16,
+    client: Range,
+    server: Range,
 }
 
 impl ObjectMap {
@@ -40,16 +37,16 @@ impl ObjectMap {
 
     /// How many places of the client room have been in use: the client's numbers so far are 1 to this one.
     pub fn client_len(&self) -> u16
-        ensures { result ≡ self.now.client_len }
+        ensures { result ≡ self.now.client.len }
     {
-        self.client_len
+        self.client.len()
     }
 
     /// How many places of the server room have been in use.
     pub fn server_len(&self) -> u16
-        ensures { result ≡ self.now.server_len }
+        ensures { result ≡ self.now.server.len }
     {
-        self.server_len
+        self.server.len()
     }
 
     /// The record with the number `id`.
@@ -108,17 +105,16 @@ impl ObjectMap {
         calls::client_insert_new(self, client, server, record)
     }
 
-    /// Changes the record with the number `id` in its slot.
-    pub fn update<R: Copy, U: Update<R>>(
+    /// Changes the record with the number `id` in its slot to what `change` makes of it.
+    pub fn update<R: Copy, F: FnOnce(R) -> R + Drop>(
         &self,
         client: &mut [Option<R>],
         server: &mut [Option<R>],
         id: u32,
-        change: &U,
+        change: F,
     ) -> Result<(), Refusal>
-        ensures defined { (result, map_of self.now client.new server.new) ≡ updating (U.updated change.now) id (map_of self.now client.old server.old) }
-        ensures changes { Updates (U.updated change.now) id (map_of self.now client.old server.old) result (map_of self.now client.new server.new) }
-        ensures stands { Stands (update_call (U.updated change.now) id) (map_of self.now client.old server.old) (map_of self.now client.new server.new) }
+        requires { F.IsAlwaysCallable change }
+        ensures { UpdatesBy (F.post change) id (map_of self.now client.old server.old) result (map_of self.now client.new server.new) }
     {
         calls::update(self, client, server, id, change)
     }

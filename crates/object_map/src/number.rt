@@ -17,11 +17,9 @@ pub enum Place {
 pub fn place_of(id: u32) -> Option<Place>
     ensures { result ≡ place id }
 {
-    if id == 0 {
-        None
-    } else if id >= SERVER_ID_LIMIT {
-        Some(Place::Server((id - SERVER_ID_LIMIT) as usize))
-    } else {
-        Some(Place::Client((id - 1) as usize))
+    match id {
+        0 => None,
+        1..SERVER_ID_LIMIT => Some(Place::Client((id - 1) as usize)),
+        _ => Some(Place::Server((id - SERVER_ID_LIMIT) as usize)),
     }
 }

@@ -1,36 +1,26 @@
--- Words and numbers, as a loop over the bytes comes to them.
-use Rattle.std.proofs.Common.{◌≡◌, ℕ, ◌+◌, ◌-◌, ◌<◌, ◌≤◌, min, not, List, [], ◌∷◌, length, get_or, take, drop, Some, fold, sym, refl, ap, ◌∙◌, inl, inr, arith}
-use Rattle.std.specs.List.{prefix_len}
+-- Where the first space of a line stands, and a number that has digits.
+use Rattle.std.proofs.Common.{◌≡◌, ℕ, ◌+◌, ◌-◌, List, [], ◌∷◌, length, fold, take, drop, Some, None, ltb, sym, refl, ap, ◌∙◌, inl, inr, arith}
+use Rattle.std.specs.List.{position, position_or_len}
+use Rattle.std.proofs.lemmas.Bool.{cases_lt, cond-true, lt-ltb}
 use Rattle.std.proofs.lemmas.List.{take_all, drop_all, take_rest}
-use Rattle.std.proofs.lemmas.List.Sums.{prefix_len-drop_yes, prefix_len-drop_no, prefix_len-drop_all}
-use Rattle.std.proofs.lemmas.Bool.{cases_lt, eq-eqb, ne_eqb}
-use Rattle.panes.specs.Lines.{in_word, word, rest, pushed, number_of}
-
-pub passed : (line : List ℕ) (i : ℕ) → i < length line → (get_or line i 0 ≡ 32 → ⊥) → prefix_len in_word (drop i line) ≡ 1 + prefix_len in_word (drop (i + 1) line)
-passed line i h ne = prefix_len-drop_yes in_word line i 0 h (ap not (ne_eqb (get_or line i 0) 32 ne))
-
--- the line ends with the word
-pub all_word : (line : List ℕ) (i : ℕ) → length line ≤ i → i + prefix_len in_word (drop i line) ≡ prefix_len in_word line → (line ≡ word line) × ([] ≡ rest line)
-all_word line i past e =
-    let z = prefix_len-drop_all in_word line i past in
-    (sym (take_all (prefix_len in_word line) line (omega arith)), sym (drop_all (prefix_len in_word line + 1) line (omega arith)))
+use Rattle.std.proofs.lemmas.Option.{cond_some}
+use Rattle.panes.specs.Lines.{is_space, word, rest, pushed, number_of}
 
 -- a space ends the word
-pub cut_word : (line : List ℕ) (i : ℕ) → i < length line → get_or line i 0 ≡ 32 → i + prefix_len in_word (drop i line) ≡ prefix_len in_word line → (take (i - 0) line ≡ word line) × (take (length line - (i + 1)) (drop (i + 1) line) ≡ rest line)
-cut_word line i h space e =
-    let z = prefix_len-drop_no in_word line i 0 h (ap not (eq-eqb (get_or line i 0) 32 space)) in
-    let same : i - 0 ≡ prefix_len in_word line = omega arith in
-    let next : i + 1 ≡ prefix_len in_word line + 1 = omega arith in
-    (ap (λ n. take n line) same, take_rest line (i + 1) ∙ ap (λ n. drop n line) next)
+pub at_space : (line : List ℕ) (i : ℕ) → position is_space line ≡ Some i → (take i line ≡ word line) × (take (length line - (i + 1)) (drop (i + 1) line) ≡ rest line)
+at_space line i e =
+    let first = (cond_some (ltb (position_or_len is_space line) (length line)) (position_or_len is_space line) i e).1 in
+    (ap (λ n. take n line) (sym first), take_rest line (i + 1) ∙ ap (λ n. drop (n + 1) line) (sym first))
+
+-- the line ends with the word
+pub no_space : (line : List ℕ) → position is_space line ≡ None → (line ≡ word line) × ([] ≡ rest line)
+no_space line e =
+    let k = position_or_len is_space line in
+    elim (cases_lt k (length line)) [
+      | inl l ↦ absurd (cc (cond-true (ltb k (length line)) (Some k) None (lt-ltb k (length line) l), e))
+      | inr past ↦ (sym (take_all k line past), sym (drop_all (k + 1) line (omega arith)))
+    ]
 
 pub all_digits : (text : List ℕ) → (length text ≡ 0 → ⊥) → number_of text ≡ fold pushed (Some 0) text
 all_digits [] some = absurd (some refl)
 all_digits (b ∷ bs) some = refl
-
--- as many of a list as it has
-pub take_within : {X : Type 0} (i n : ℕ) (xs : List X) → i ≡ min n (length xs) → take i xs ≡ take n xs
-take_within i n xs e =
-    elim (cases_lt (length xs) n) [
-      | inl l ↦ take_all i xs (omega arith) ∙ sym (take_all n xs (omega arith))
-      | inr le ↦ let same : i ≡ n = omega arith in ap (λ k. take k xs) same
-    ]

@@ -1,3 +1,4 @@
 pub mod Ledger
 pub mod Lines
+pub mod Shown
 pub mod Table

@@ -1,25 +1,23 @@
 -- What a line of text asks for.
-use Rattle.std.specs.Prelude.{ℕ, ◌+◌, ◌-◌, ◌*◌, ◌^◌, Bool, cond, not, ◌&&◌, List, [], ◌∷◌, take, drop, Some, None, codes, fold, Option, ◌==◌, nat_le, nat_lt}
+use Rattle.std.specs.Prelude.{ℕ, ◌+◌, ◌-◌, ◌*◌, ◌^◌, Bool, cond, ◌&&◌, List, [], ◌∷◌, Some, None, codes, fold, Option, ◌==◌, nat_le, nat_lt}
 use Rattle.std.specs.Option.{option_map}
-use Rattle.std.specs.List.{prefix_len}
+use Rattle.std.specs.List.{before_first, after_first}
 use Rattle.std.specs.Str.{bytes_eq}
 use Rattle.panes.specs.declared.pane.Pane.{Pane}
 use Rattle.panes.specs.declared.command.Command.{Command}
 use Rattle.panes.specs.declared.command.Command.TheVariants.{Open, Show, Resize, Close, List as ListAll}
-use Rattle.panes.specs.declared.command.Verb.{Verb}
-use Rattle.panes.specs.declared.command.Verb.TheVariants.{Open as OpenVerb, Show as ShowVerb, Resize as ResizeVerb, Close as CloseVerb}
 
--- a byte that is no space
-abbrev pub in_word : ℕ → Bool
-in_word b = not (b == 32)
+-- a space
+abbrev pub is_space : ℕ → Bool
+is_space b = b == 32
 
 -- the bytes before the first space
 abbrev pub word : List ℕ → List ℕ
-word line = take (prefix_len in_word line) line
+word line = before_first is_space line
 
 -- the bytes behind it
 abbrev pub rest : List ℕ → List ℕ
-rest line = drop (prefix_len in_word line + 1) line
+rest line = after_first is_space line
 
 -- a number of 64 bits
 abbrev pub fitting : ℕ → Option ℕ
@@ -46,14 +44,6 @@ pane_of None h = None
 pane_of (Some w) None = None
 pane_of (Some w) (Some h) = Some (record { width = w; height = h })
 
--- the first words that ask for more
-abbrev pub verb_of : List ℕ → Option Verb
-verb_of w =
-    cond (bytes_eq w (codes "open")) (Some OpenVerb)
-    (cond (bytes_eq w (codes "show")) (Some ShowVerb)
-    (cond (bytes_eq w (codes "resize")) (Some ResizeVerb)
-    (cond (bytes_eq w (codes "close")) (Some CloseVerb) None)))
-
 -- a resize needs a number and a size
 abbrev pub resizing : Option ℕ → Option Pane → Option Command
 resizing None p = None
@@ -61,14 +51,13 @@ resizing (Some n) None = None
 resizing (Some n) (Some p) = Some (Resize n p)
 
 -- the command that a first word and the rest of the line make
-abbrev pub asked : Option Verb → List ℕ → Option Command
-asked None line = None
-asked (Some OpenVerb) line = option_map Open (pane_of (number_of (word line)) (number_of (rest line)))
-asked (Some ShowVerb) line = option_map Show (object_of (number_of line))
-asked (Some ResizeVerb) line =
-    resizing (object_of (number_of (word line))) (pane_of (number_of (word (rest line))) (number_of (rest (rest line))))
-asked (Some CloseVerb) line = option_map Close (object_of (number_of line))
+abbrev pub asked : List ℕ → List ℕ → Option Command
+asked first line =
+    cond (bytes_eq first (codes "open")) (option_map Open (pane_of (number_of (word line)) (number_of (rest line))))
+    (cond (bytes_eq first (codes "show")) (option_map Show (object_of (number_of line)))
+    (cond (bytes_eq first (codes "resize")) (resizing (object_of (number_of (word line))) (pane_of (number_of (word (rest line))) (number_of (rest (rest line)))))
+    (cond (bytes_eq first (codes "close")) (option_map Close (object_of (number_of line))) None)))
 
 -- the command of a line, if it is one
 abbrev pub command_of : List ℕ → Option Command
-command_of line = cond (bytes_eq line (codes "list")) (Some ListAll) (asked (verb_of (word line)) (rest line))
+command_of line = cond (bytes_eq line (codes "list")) (Some ListAll) (asked (word line) (rest line))

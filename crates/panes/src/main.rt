@@ -5,31 +5,35 @@ mod command;
 mod pane;
 mod table;
 
-use anyhow::anyhow;
+use anyhow::Context;
 use command::{Command, parse};
-use object_map::map::ObjectMap;
+use object_map::refusal::Refusal;
 use pane::Pane;
 use std::io;
 use std::io::{BufRead, BufReader};
-use table::{Answer, apply};
+use table::{Answer, PaneTable};
 
 /// How many panes may be open at once.
 const PLACES: usize = 1024;
 
 /// A line without its line feed.
 fn content(line: &[u8]) -> &[u8] {
-    match line {
-        [text @ .., b'\n'] => text,
-        text => text,
+    line.strip_suffix(b"\n").unwrap_or(line)
+}
+
+/// Tells what a command did, or why it did nothing.
+fn tell(rt: &impl Print, answer: Result<Answer, Refusal>) -> io::Result<()> {
+    match answer {
+        Ok(answer) => rt.println(answer),
+        Err(refusal) => println!(rt; "refused ({}): {refusal}", refusal.number()),
     }
 }
 
 /// Every open pane, in the order of the numbers.
-fn list(rt: &impl Print, map: &mut ObjectMap, panes: &mut [Option<Pane>]) -> io::Result<()> {
-    rt.println(apply(map, panes, Command::List))?;
-    for number in 1..=map.client_len() as u32 {
-        let answer = apply(map, panes, Command::Show(number));
-        if let Answer::Shown(_, _) = answer {
+fn list(rt: &impl Print, table: &mut PaneTable) -> io::Result<()> {
+    tell(rt, table.apply(Command::List))?;
+    for number in 1..=table.last() {
+        if let Ok(answer) = table.apply(Command::Show(number)) {
             rt.println(answer)?;
         }
     }
@@ -37,19 +41,13 @@ fn list(rt: &impl Print, map: &mut ObjectMap, panes: &mut [Option<Pane>]) -> io:
 }
 
 /// What one line asks for; blank lines and those that begin with `#` ask for nothing.
-fn obey(
-    rt: &impl Print,
-    map: &mut ObjectMap,
-    panes: &mut [Option<Pane>],
-    number: u64,
-    line: &[u8],
-) -> io::Result<()> {
-    if line.is_empty() || line[0] == b'#' {
+fn obey(rt: &impl Print, table: &mut PaneTable, number: u64, line: &[u8]) -> io::Result<()> {
+    if let [] | [b'#', ..] = line {
         return Ok(());
     }
     match parse(line) {
-        Some(Command::List) => list(rt, map, panes),
-        Some(command) => rt.println(apply(map, panes, command)),
+        Some(Command::List) => list(rt, table),
+        Some(command) => tell(rt, table.apply(command)),
         None => match std::str::from_utf8(line) {
             Ok(text) => println!(rt; "line {number}: not a command: {text}"),
             Err(_) => println!(rt; "line {number}: not a command"),
@@ -59,9 +57,7 @@ fn obey(
 
 /// Obeys the lines of standard input, with a place in `panes` for each pane.
 fn run(rt: &HostRuntime, panes: &mut [Option<Pane>]) -> anyhow::Result<()> {
-    let Ok(mut map) = ObjectMap::new(panes, &mut []) else {
-        return Err(anyhow!("no room for panes"));
-    };
+    let mut table = PaneTable::new(panes).context("no room for panes")?;
     let mut input = BufReader::new(rt.alloc(), rt.stdin())?;
     let mut line = Vec::new(rt.alloc());
     for number in 1..u64::MAX {
@@ -69,7 +65,7 @@ fn run(rt: &HostRuntime, panes: &mut [Option<Pane>]) -> anyhow::Result<()> {
         if input.read_until(b'\n', &mut line)? == 0 {
             break;
         }
-        obey(rt, &mut map, panes, number, content(&line))?;
+        obey(rt, &mut table, number, content(&line))?;
     }
     Ok(())
 }

@@ -1,19 +1,20 @@
 //! The pane table at work: a command changes it and has an answer.
 
-ghost use Rattle.std.specs.Prelude.{◌≡◌, []};
+ghost use Rattle.std.specs.Prelude.{◌≡◌, Some};
 ghost use Rattle.object_map.specs.Laws.{occupied_in};
-ghost use Rattle.object_map.specs.Map.{map_of, finding, removing, inserting_new, updating};
-ghost use Rattle.object_map.specs.Store.{store_of};
-ghost use Rattle.panes.specs.Table.{opened, shown, resized, closed, applied};
-ghost use Rattle.panes.specs.Ledger.{Told};
+ghost use Rattle.object_map.specs.Map.{finding, inserting_new, updating};
+ghost use Rattle.panes.specs.Table.{begun, opened, shown, resized, closed, applied};
+ghost use Rattle.panes.specs.Ledger.{Told, Begun};
+ghost use Rattle.panes.specs.Shown.{answer_text};
 
 use super::command::Command;
-use super::pane::{Pane, Resize};
+use super::pane::Pane;
 use object_map::map::ObjectMap;
 use object_map::refusal::Refusal;
 use std::fmt;
+use std::marker::Model;
 
-/// What a command did, or why it did nothing.
+/// What a command did.
 #[derive(Clone, Copy)]
 pub enum Answer {
     Opened(u32, Pane),
@@ -22,82 +23,104 @@ pub enum Answer {
     Closed(u32),
     /// How many panes are open.
     Listed(usize),
-    Refused(Refusal),
 }
 
-fn open(map: &mut ObjectMap, panes: &mut [Option<Pane>], pane: Pane) -> Answer
-    ensures told { Told (map_of map.old panes.old []) result (map_of map.new panes.new []) }
-    ensures defined { (result, map_of map.new panes.new []) ≡ opened pane (inserting_new pane (map_of map.old panes.old [])) }
-{
-    match map.client_insert_new(panes, &[], pane) {
-        Ok(number) => Answer::Opened(number, pane),
-        Err(refusal) => Answer::Refused(refusal),
+/// The panes by number. They lie in the client slots of the map; a viewer has no server's.
+#[derive(Drop)]
+pub struct PaneTable<'a> {
+    map: ObjectMap,
+    panes: &'a mut [Option<Pane>],
+}
+
+impl<'a> Model for PaneTable<'a> {
+    ghost use Rattle.std.specs.Prelude.{[]};
+    ghost use Rattle.object_map.specs.Map.{Map, map_of};
+    ghost use Rattle.panes.specs.declared.pane.Pane.{Pane};
+
+    ghost Value = { Map Pane };
+
+    ghost view = { λ t. map_of t.map t.panes.now [] };
+}
+
+impl<'a> PaneTable<'a> {
+    /// A table without panes, with a place for each in `panes`.
+    pub fn new(panes: &'a mut [Option<Pane>]) -> Result<PaneTable<'a>, Refusal>
+        ensures defined { result ≡ begun panes.old }
+        ensures begins { Begun result }
+    {
+        let map = ObjectMap::new(panes, &mut [])?;
+        Ok(PaneTable { map, panes })
     }
-}
 
-fn show(map: &ObjectMap, panes: &[Option<Pane>], number: u32) -> Answer
-    ensures told { Told (map_of map.now panes.now []) result (map_of map.now panes.now []) }
-    ensures defined { result ≡ shown number (finding number (map_of map.now panes.now [])) }
-{
-    match map.find(panes, &[], number) {
-        Ok(Some(pane)) => Answer::Shown(number, pane),
-        Ok(None) => Answer::Refused(Refusal::Vacant),
-        Err(refusal) => Answer::Refused(refusal),
+    /// Up to which number panes have been opened.
+    pub fn last(&self) -> u32
+        ensures { result ≡ self.now.client.used }
+    {
+        u32::from(self.map.client_len())
     }
-}
 
-fn resize(map: &ObjectMap, panes: &mut [Option<Pane>], number: u32, pane: Pane) -> Answer
-    ensures told { Told (map_of map.now panes.old []) result (map_of map.now panes.new []) }
-    ensures defined { (result, map_of map.now panes.new []) ≡ resized number pane (updating (λ _. pane) number (map_of map.now panes.old [])) }
-{
-    match map.update(panes, &mut [], number, &Resize(pane)) {
-        Ok(()) => Answer::Resized(number, pane),
-        Err(refusal) => Answer::Refused(refusal),
+    fn open(&mut self, pane: Pane) -> Result<Answer, Refusal>
+        ensures told { Told self.old result self.new }
+        ensures defined { (result, self.new) ≡ opened pane (inserting_new pane self.old) }
+    {
+        let number = self.map.client_insert_new(self.panes, &[], pane)?;
+        Ok(Answer::Opened(number, pane))
     }
-}
 
-fn close(map: &ObjectMap, panes: &mut [Option<Pane>], number: u32) -> Answer
-    ensures told { Told (map_of map.now panes.old []) result (map_of map.now panes.new []) }
-    ensures defined { (result, map_of map.now panes.new []) ≡ closed number (finding number (map_of map.now panes.old [])) (map_of map.now panes.old []) }
-{
-    match map.find(panes, &[], number) {
-        Ok(Some(_)) => match map.remove(panes, &mut [], number) {
-            Ok(()) => Answer::Closed(number),
-            Err(refusal) => Answer::Refused(refusal),
-        },
-        Ok(None) => Answer::Refused(Refusal::Vacant),
-        Err(refusal) => Answer::Refused(refusal),
+    fn show(&self, number: u32) -> Result<Answer, Refusal>
+        ensures told { Told self.now result self.now }
+        ensures defined { result ≡ shown number (finding number self.now) }
+    {
+        let pane = self
+            .map
+            .find(self.panes, &[], number)?
+            .ok_or(Refusal::Vacant)?;
+        Ok(Answer::Shown(number, pane))
     }
-}
 
-fn count_open(map: &ObjectMap, panes: &[Option<Pane>]) -> usize
-    ensures { result ≡ occupied_in (store_of panes.now map.now.client_len) }
-{
-    let used = (map.client_len() as usize).min(panes.len());
-    let mut open = 0;
-    for i in 0..used {
-        if panes[i].is_some() {
-            open += 1;
+    fn resize(&mut self, number: u32, pane: Pane) -> Result<Answer, Refusal>
+        ensures told { Told self.old result self.new }
+        ensures defined { (result, self.new) ≡ resized number pane (updating (λ _. pane) number self.old) }
+    {
+        self.map.update(self.panes, &mut [], number, |_| pane)?;
+        Ok(Answer::Resized(number, pane))
+    }
+
+    fn close(&mut self, number: u32) -> Result<Answer, Refusal>
+        ensures told { Told self.old result self.new }
+        ensures defined { (result, self.new) ≡ closed number (finding number self.old) self.old }
+    {
+        self.show(number)?;
+        self.map.remove(self.panes, &mut [], number)?;
+        Ok(Answer::Closed(number))
+    }
+
+    fn count_open(&self) -> usize
+        ensures { result ≡ occupied_in self.now.client }
+    {
+        let used = self.map.client_len() as usize;
+        let slots = self.panes.iter().take(used);
+        slots.filter(|slot| slot.is_some()).count()
+    }
+
+    /// Carries a command out.
+    pub fn apply(&mut self, command: Command) -> Result<Answer, Refusal>
+        ensures told { Told self.old result self.new }
+        ensures defined { (result, self.new) ≡ applied command self.old }
+    {
+        match command {
+            Command::Open(pane) => self.open(pane),
+            Command::Show(number) => self.show(number),
+            Command::Resize(number, pane) => self.resize(number, pane),
+            Command::Close(number) => self.close(number),
+            Command::List => Ok(Answer::Listed(self.count_open())),
         }
-    }
-    open
-}
-
-/// Carries a command out. The panes lie in the client slots; a viewer has no server's.
-pub fn apply(map: &mut ObjectMap, panes: &mut [Option<Pane>], command: Command) -> Answer
-    ensures told { Told (map_of map.old panes.old []) result (map_of map.new panes.new []) }
-    ensures defined { (result, map_of map.new panes.new []) ≡ applied command (map_of map.old panes.old []) }
-{
-    match command {
-        Command::Open(pane) => open(map, panes, pane),
-        Command::Show(number) => show(map, panes, number),
-        Command::Resize(number, pane) => resize(map, panes, number, pane),
-        Command::Close(number) => close(map, panes, number),
-        Command::List => Answer::Listed(count_open(map, panes)),
     }
 }
 
 impl fmt::Display for Answer {
+    ghost output = { λ a. Some (answer_text a) };
+
     fn fmt<W: fmt::Write>(&self, f: &mut fmt::Formatter<W>) -> fmt::Result {
         match *self {
             Answer::Opened(number, Pane { width, height }) => write!(
@@ -114,10 +137,6 @@ impl fmt::Display for Answer {
             ),
             Answer::Closed(number) => write!(f, "closed {number}"),
             Answer::Listed(count) => write!(f, "open panes: {count}"),
-            Answer::Refused(refusal) => {
-                let number = refusal.number();
-                write!(f, "refused ({number}): {refusal}")
-            }
         }
     }
 }

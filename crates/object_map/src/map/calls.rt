@@ -1,13 +1,13 @@
 //! The work of the calls, each held to its definition.
 
 ghost use Rattle.std.specs.Prelude.{◌≡◌, ◌^◌, ◌<◌, length, OnOk};
-ghost use Rattle.object_map.specs.Map.{map_of, creation, lent, finding, removing, inserting_at, inserting_new, updating};
+ghost use Rattle.object_map.specs.Map.{map_of, creation, lent, finding, removing, inserting_at, inserting_new};
+ghost use Rattle.object_map.specs.Runs.{UpdatesBy};
 
 use super::{MAX_PLACES, ObjectMap};
 use crate::number::{Place, place_of};
+use crate::range::Range;
 use crate::refusal::Refusal;
-use crate::store::{empty_all, find_in, insert_in, insert_in_at, update_in, vacate_in};
-use crate::update::Update;
 
 pub(crate) fn create<R: Copy>(
     client: &mut [Option<R>],
@@ -18,13 +18,9 @@ pub(crate) fn create<R: Copy>(
     if client.is_empty() || client.len() > MAX_PLACES || server.len() > MAX_PLACES {
         return Err(Refusal::Rooms);
     }
-    empty_all(client);
-    empty_all(server);
     Ok(ObjectMap {
-        client_places: client.len() as u16,
-        server_places: server.len() as u16,
-        client_len: 0,
-        server_len: 0,
+        client: Range::new(client),
+        server: Range::new(server),
     })
 }
 
@@ -36,9 +32,9 @@ fn check_rooms<R: Copy>(
 ) -> Result<(), Refusal>
     ensures answer { result ≡ lent (map_of map.now client.now server.now) }
     ensures few { OnOk result ((length client.now < 2 ^ 16) × (length server.now < 2 ^ 16)) }
-    ensures places { map.now.client_places < 2 ^ 16 }
+    ensures places { map.now.client.places < 2 ^ 16 }
 {
-    if client.len() == map.client_places as usize && server.len() == map.server_places as usize {
+    if map.client.fits(client) && map.server.fits(server) {
         Ok(())
     } else {
         Err(Refusal::Rooms)
@@ -56,8 +52,8 @@ pub(crate) fn find<R: Copy>(
     check_rooms(map, client, server)?;
     Ok(match place_of(id) {
         None => None,
-        Some(Place::Client(index)) => find_in(client, map.client_len, index),
-        Some(Place::Server(index)) => find_in(server, map.server_len, index),
+        Some(Place::Client(index)) => map.client.find(client, index),
+        Some(Place::Server(index)) => map.server.find(server, index),
     })
 }
 
@@ -72,8 +68,8 @@ pub(crate) fn remove<R: Copy>(
     check_rooms(map, client, server)?;
     match place_of(id) {
         None => {}
-        Some(Place::Client(index)) => vacate_in(client, map.client_len, index),
-        Some(Place::Server(index)) => vacate_in(server, map.server_len, index),
+        Some(Place::Client(index)) => map.client.vacate(client, index),
+        Some(Place::Server(index)) => map.server.vacate(server, index),
     }
     Ok(())
 }
@@ -90,8 +86,8 @@ pub(crate) fn insert_at<R: Copy>(
     check_rooms(map, client, server)?;
     match place_of(id) {
         None => Err(Refusal::Null),
-        Some(Place::Client(index)) => insert_in_at(client, &mut map.client_len, index, record),
-        Some(Place::Server(index)) => insert_in_at(server, &mut map.server_len, index, record),
+        Some(Place::Client(index)) => map.client.insert_at(client, index, record),
+        Some(Place::Server(index)) => map.server.insert_at(server, index, record),
     }
 }
 
@@ -101,27 +97,28 @@ pub(crate) fn client_insert_new<R: Copy>(
     server: &[Option<R>],
     record: R,
 ) -> Result<u32, Refusal>
-    ensures places { map.old.client_places < 2 ^ 16 }
+    ensures places { map.old.client.places < 2 ^ 16 }
     ensures defined { (result, map_of map.new client.new server.now) ≡ inserting_new «record» (map_of map.old client.old server.now) }
 {
     check_rooms(map, client, server)?;
-    let index = insert_in(client, &mut map.client_len, record)?;
+    let index = map.client.insert(client, record)?;
     Ok(index as u32 + 1)
 }
 
-pub(crate) fn update<R: Copy, U: Update<R>>(
+pub(crate) fn update<R: Copy, F: FnOnce(R) -> R + Drop>(
     map: &ObjectMap,
     client: &mut [Option<R>],
     server: &mut [Option<R>],
     id: u32,
-    change: &U,
+    change: F,
 ) -> Result<(), Refusal>
-    ensures { (result, map_of map.now client.new server.new) ≡ updating (U.updated change.now) id (map_of map.now client.old server.old) }
+    requires { F.IsAlwaysCallable change }
+    ensures { UpdatesBy (F.post change) id (map_of map.now client.old server.old) result (map_of map.now client.new server.new) }
 {
     check_rooms(map, client, server)?;
     match place_of(id) {
         None => Err(Refusal::Vacant),
-        Some(Place::Client(index)) => update_in(client, map.client_len, index, change),
-        Some(Place::Server(index)) => update_in(server, map.server_len, index, change),
+        Some(Place::Client(index)) => map.client.update(client, index, change),
+        Some(Place::Server(index)) => map.server.update(server, index, change),
     }
 }

@@ -1,23 +1,18 @@
-use Rattle.std.proofs.Common.{arith}
-use Rattle.panes.proofs.Texts.{passed, all_word, cut_word}
+use Rattle.std.proofs.Common.{sym, ◌∙◌, rules}
+use Rattle.std.proofs.lemmas.Iterator.{YieldsList-from_slice}
+use Rattle.std.proofs.lemmas.Iterator.Search.{position_from_yields_List}
+use Rattle.panes.specs.Lines.{is_space}
+use Rattle.panes.proofs.Texts.{at_space, no_space}
 use Rattle.panes.proofs.command.cut.Goals as goal
-use Rattle.panes.proofs.command.cut.Goals.{then-loop-end-test+else-line-end-ne32, else-loop-end-test}
 
-pub loop-end-preserved : goal.loop-end-preserved
-loop-end-preserved c =
-    let e = passed c.args.line.now c.loop-end.end (omega arith) (λ h. omega arith) in
-    (omega arith, omega arith)
+pub returns-in-Some : goal.returns-in-Some
+returns-in-Some c =
+    let e = position_from_yields_List is_space _ _ _ c.position.ensures.ran (YieldsList-from_slice c.args.line.now c.iter.ensures.rest) (λ x b q k. search rules) in
+    let cuts = at_space c.args.line.now c.in-Some.end (sym e ∙ c.in-Some.is) in
+    record { first = cuts.0; after = cuts.1 }
 
-pub returns-then-end-line : goal.returns-then-end-line
-returns-then-end-line c =
-    let w = all_word c.args.line.now c.loop-end.end (omega arith) c.loop-end.invariant.1 in
-    record { first = w.0; after = w.1 }
-
-pub returns : goal.returns
-returns c =
-    elim c.loop-end-test.branch [
-      | then-loop-end-test+else-line-end-ne32 w ↦
-          let cuts = cut_word c.args.line.now c.loop-end.end (omega arith) (omega arith) c.loop-end.invariant.1 in
-          record { first = cuts.0; after = cuts.1 }
-      | else-loop-end-test w ↦ absurd (omega arith)
-    ]
+pub returns-in-None : goal.returns-in-None
+returns-in-None c =
+    let e = position_from_yields_List is_space _ _ _ c.position.ensures.ran (YieldsList-from_slice c.args.line.now c.iter.ensures.rest) (λ x b q k. search rules) in
+    let cuts = no_space c.args.line.now (sym e ∙ c.in-None.is) in
+    record { first = cuts.0; after = cuts.1 }
