@@ -3,7 +3,7 @@ use Rattle.std.proofs.Common.{◌≡◌, ℕ, zero, suc, ◌+◌, ◌^◌, ◌<�
 use Rattle.std.proofs.lemmas.Bool.Decides.{nat_tests}
 use Rattle.std.proofs.lemmas.Bool.{cond_both, cond-false, cases_Bool, eqb-true, ne_eqb, and_parts}
 use Rattle.std.proofs.lemmas.List.Sums.{sum_by-cons}
-use Rattle.std.specs.List.{AllByRecursion, slice_get}
+use Rattle.std.specs.List.{All, slice_get}
 use Rattle.object_map.specs.Map.{Map}
 use Rattle.protocol.proofs.CoreFound.{core_found}
 use Rattle.protocol.specs.Arguments.{same_type, agrees}
@@ -121,18 +121,18 @@ news_within (k ∷ ks) (x ∷ xs) o e =
     omega arith
 
 -- and that is one at most
-all_or : {X : Type 0} (P : X → Type 0) (xs : List X) (i : ℕ) (d : X) → AllByRecursion P xs → P d → P (get_or xs i d)
+all_or : {X : Type 0} (P : X → Type 0) (xs : List X) (i : ℕ) (d : X) → All P xs → P d → P (get_or xs i d)
 all_or P [] i d h p = p
-all_or P (x ∷ xs) zero d h p = h.0
-all_or P (x ∷ xs) (suc i) d h p = all_or P xs i d h.1 p
+all_or P (x ∷ xs) zero d h p = h 0 x (omega arith)
+all_or P (x ∷ xs) (suc i) d h p = all_or P xs i d (λ k e lt. h (suc k) e (omega arith)) p
 
-all_nth : {X : Type 0} (P : X → Type 0) (xs : List X) (i : ℕ) (x : X) → AllByRecursion P xs → slice_get xs i ≡ Some x → P x
+all_nth : {X : Type 0} (P : X → Type 0) (xs : List X) (i : ℕ) (x : X) → All P xs → slice_get xs i ≡ Some x → P x
 all_nth P [] i x h e = let z : ◌≡◌ {A = ℕ} 0 1 = cc in absurd (omega arith)
-all_nth P (y ∷ xs) zero x h e = let q : y ≡ x = cc in subst P q h.0
-all_nth P (y ∷ xs) (suc i) x h e = all_nth P xs i x h.1 e
+all_nth P (y ∷ xs) zero x h e = let q : y ≡ x = cc in subst P q (h 0 y (omega arith))
+all_nth P (y ∷ xs) (suc i) x h e = all_nth P xs i x (λ k d lt. h (suc k) d (omega arith)) e
 
 one_new : (t : Table) (i o : ℕ) (d : Message) → Sound t → event_at t i o ≡ Some d → new_ids d ≤ 1
-one_new t i o d s e = (all_nth (SoundEvent (length t)) _ o d (all_or (λ (c : Description). AllByRecursion (SoundEvent (length t)) c.events) t i _ s.events (all_or (λ (c : Description). AllByRecursion (SoundEvent (length t)) c.events) t 3 anonymous s.events tt)) e).message.one
+one_new t i o d s e = (all_nth (SoundEvent (length t)) _ o d (all_or (λ (c : Description). All (SoundEvent (length t)) c.events) t i _ s.events (all_or (λ (c : Description). All (SoundEvent (length t)) c.events) t 3 anonymous s.events (λ k c lt. absurd (omega arith)))) e).message.one
 
 -- a ledger that grew by one tenancy of the server's range, or stayed
 abbrev Grew : Ledger → Ledger → Type 0

@@ -1,14 +1,16 @@
 -- The tests of descriptions decide what they are to say.
-use Rattle.std.proofs.Common.{◌≡◌, ℕ, ◌<◌, ◌≤◌, Bool, true, false, ◌&&◌, ◌||◌, eqb, leb, List, [], ◌∷◌, length, get_or, take, is_some, IfSome, Some, None, Decides, sum_by, Option, sym, refl, ap, ◌∙◌, inl, inr, arith}
-use Rattle.std.specs.List.{AllByRecursion}
-use Rattle.std.proofs.ByRecursion.{All-weaker, Decides-by_and}
+use Rattle.std.proofs.Common.{◌≡◌, ℕ, ◌<◌, ◌≤◌, Bool, true, ◌&&◌, ◌||◌, eqb, leb, List, [], ◌∷◌, length, get_or, take, is_some, IfSome, All, Some, None, Decides, sum_by, Option, sym, refl, ap, ◌∙◌, inl, inr, arith}
+use Rattle.std.proofs.lemmas.List.Elements.{All-weaker}
+use Rattle.std.specs.Cmp.{booleans_Decides}
+use Rattle.std.specs.Cmp.Lexicographic.{pointwise_decides}
+use Rattle.std.specs.Option.{option_eq}
 use Rattle.std.proofs.lemmas.Slice.Eq.{bytes_eq-Decides}
 use Rattle.std.proofs.lemmas.Bool.{false≢true, eqb-true, eq-eqb, ne_eqb, leb-true, le-leb, or_left, or_right, cases_eq}
-use Rattle.std.proofs.lemmas.Bool.Decides.{Decides-and, Decides-like, Decides-eqb, Decides-not, Decides-ltb}
+use Rattle.std.proofs.lemmas.Bool.Decides.{Decides-by_and, Decides-and, Decides-like, Decides-eqb, Decides-not, Decides-ltb}
 use Rattle.protocol.specs.Core.{core}
 use Rattle.protocol.specs.Descriptions.{Message, Description}
-use Rattle.protocol.specs.Equal.{exact_number, identical, same_flag, same_child, same_message, same_description}
-use Rattle.protocol.specs.Pairwise.{all, alike}
+use Rattle.protocol.specs.Equal.{exact_number, identical, same_message, same_description}
+use Rattle.protocol.specs.Pairwise.{all}
 use Rattle.protocol.specs.Rules.{nonzero, is_below, child_inside, name_fits, new_ids, objects, request_fits, event_fits, interface_fits, message_count, well_formed}
 use Rattle.protocol.specs.Words.{SoundName, SoundRequest, SoundEvent, Sound}
 use Rattle.protocol.specs.declared.argument.AllowNull.TheVariants.{Yes, No}
@@ -36,42 +38,30 @@ identical_decides : (a b : ArgumentType) → Decides (identical a b) (a ≡ b)
 identical_decides a b =
     (λ e. sym (told a) ∙ (ap (λ (n : ℕ). get_or kinds n Int) (eqb-true (exact_number a) (exact_number b) e) ∙ told b), λ e. eq-eqb (exact_number a) (exact_number b) (ap exact_number e))
 
-flag_decides : (a b : Bool) → Decides (same_flag a b) (a ≡ b)
-flag_decides true true = (λ _. refl, λ _. refl)
-flag_decides true false = (sym, sym)
-flag_decides false true = (λ e. e, λ e. e)
-flag_decides false false = (λ _. refl, λ _. refl)
-
-child_decides : (a b : Option ℕ) → Decides (same_child a b) (a ≡ b)
+child_decides : (a b : Option ℕ) → Decides (option_eq eqb a b) (a ≡ b)
 child_decides None None = (λ _. refl, λ _. refl)
 child_decides None (Some j) = (λ e. absurd (false≢true e), λ e. ap is_some e)
 child_decides (Some i) None = (λ e. absurd (false≢true e), λ e. sym (ap is_some e))
 child_decides (Some i) (Some j) = (λ e. ap (λ (n : ℕ). Some n) (eqb-true i j e), λ e. eq-eqb i j (cc))
 
-alike_decides : {X : Type 0} (p : X → X → Bool) → ((x y : X) → Decides (p x y) (x ≡ y)) → (xs ys : List X) → Decides (alike p xs ys) (xs ≡ ys)
-alike_decides p d [] [] = (λ _. refl, λ _. refl)
-alike_decides p d [] (y ∷ ys) = (λ e. absurd (false≢true e), λ e. let z : ◌≡◌ {A = ℕ} 0 1 = cc in absurd (omega arith))
-alike_decides p d (x ∷ xs) [] = (λ e. absurd (false≢true e), λ e. let z : ◌≡◌ {A = ℕ} 0 1 = cc in absurd (omega arith))
-alike_decides p d (x ∷ xs) (y ∷ ys) = Decides-like _ (λ h. let a = h.0 in let b = h.1 in cc) (λ e. (cc, cc)) (Decides-and _ _ (d x y) (alike_decides p d xs ys))
-
 message_decides : (a b : Message) → Decides (same_message a b) (a ≡ b)
 message_decides a b =
     Decides-like _
-    (λ h i. record { signature = h.1.1.1 i; destructor = h.0 i; child = h.1.0 i; args = h.1.1.0 i })
-    (λ e. (ap (λ (m : Message). m.destructor) e, (ap (λ (m : Message). m.child) e, (ap (λ (m : Message). m.args) e, ap (λ (m : Message). m.signature) e))))
-    (Decides-and _ _ (flag_decides a.destructor b.destructor) (Decides-and _ _ (child_decides a.child b.child) (Decides-and _ _ (bytes_eq-Decides a.args b.args) (alike_decides identical identical_decides a.signature b.signature))))
+    (λ h i. record { signature = h.0 i; destructor = h.1.0 i; child = h.1.1.0 i; args = h.1.1.1 i })
+    (λ e. (ap (λ (m : Message). m.signature) e, (ap (λ (m : Message). m.destructor) e, (ap (λ (m : Message). m.child) e, ap (λ (m : Message). m.args) e))))
+    (Decides-and _ _ (pointwise_decides identical_decides a.signature b.signature) (Decides-and _ _ (booleans_Decides a.destructor b.destructor) (Decides-and _ _ (child_decides a.child b.child) (bytes_eq-Decides a.args b.args))))
 
-description_decides : (a b : Description) → Decides (same_description a b) (a ≡ b)
+pub description_decides : (a b : Description) → Decides (same_description a b) (a ≡ b)
 description_decides a b =
     Decides-like _
     (λ h i. record { name = h.0 i; requests = h.1.0 i; events = h.1.1 i })
     (λ e. (ap (λ (d : Description). d.name) e, (ap (λ (d : Description). d.requests) e, ap (λ (d : Description). d.events) e)))
-    (Decides-and _ _ (bytes_eq-Decides a.name b.name) (Decides-and _ _ (alike_decides same_message message_decides a.requests b.requests) (alike_decides same_message message_decides a.events b.events)))
+    (Decides-and _ _ (bytes_eq-Decides a.name b.name) (Decides-and _ _ (pointwise_decides message_decides a.requests b.requests) (pointwise_decides message_decides a.events b.events)))
 
 leb_decides : (a b : ℕ) → Decides (leb a b) (a ≤ b)
 leb_decides a b = (leb-true a b, le-leb a b)
 
-all_decides : {X : Type 0} (p : X → Bool) (P : X → Type 0) → ((x : X) → Decides (p x) (P x)) → (xs : List X) → Decides (all p xs) (AllByRecursion P xs)
+all_decides : {X : Type 0} (p : X → Bool) (P : X → Type 0) → ((x : X) → Decides (p x) (P x)) → (xs : List X) → Decides (all p xs) (All P xs)
 all_decides p P d xs = Decides-by_and p P (all p) d refl (λ _ _. refl) xs
 
 name_decides : (bs : List ℕ) → Decides (name_fits bs) (SoundName bs)
@@ -91,7 +81,7 @@ child_named n b = (
 
 module _ (n : ℕ) (m : Message) where
   abbrev Inside : Type 0
-  Inside = IfSome m.child (λ i. i < n) × AllByRecursion (λ i. i < n) m.args
+  Inside = IfSome m.child (λ i. i < n) × All (λ i. i < n) m.args
 
   inside_decides : Decides (child_inside n m.child && all (is_below n) m.args) Inside
   inside_decides = Decides-and _ _ (child_in n m.child) (all_decides (is_below n) (λ i. i < n) (λ i. Decides-ltb i n) m.args)
@@ -111,15 +101,14 @@ module _ (n : ℕ) (m : Message) where
       (Decides-and _ _ (leb_decides (length m.signature) 20) (Decides-and _ _ (leb_decides (new_ids m) 1) (Decides-and _ _ (child_named (new_ids m) (is_some m.child)) (Decides-and _ _ (leb_decides (length m.args) (objects m)) inside_decides))))
 
 abbrev SoundInterface : ℕ → Description → Type 0
-SoundInterface n d = SoundName d.name × (AllByRecursion (SoundRequest n) d.requests × AllByRecursion (SoundEvent n) d.events)
+SoundInterface n d = SoundName d.name × (All (SoundRequest n) d.requests × All (SoundEvent n) d.events)
 
 interface_decides : (n : ℕ) (d : Description) → Decides (interface_fits n d) (SoundInterface n d)
 interface_decides n d =
     Decides-and _ _ (name_decides d.name) (Decides-and _ _ (all_decides (request_fits n) (SoundRequest n) (request_decides n) d.requests) (all_decides (event_fits n) (SoundEvent n) (event_decides n) d.events))
 
-all_three : {X : Type 0} (P Q R : X → Type 0) (xs : List X) → AllByRecursion P xs → AllByRecursion Q xs → AllByRecursion R xs → AllByRecursion (λ x. P x × (Q x × R x)) xs
-all_three P Q R [] p q r = tt
-all_three P Q R (x ∷ xs) p q r = ((p.0, (q.0, r.0)), all_three P Q R xs p.1 q.1 r.1)
+all_three : {X : Type 0} (P Q R : X → Type 0) (xs : List X) → All P xs → All Q xs → All R xs → All (λ x. P x × (Q x × R x)) xs
+all_three P Q R xs p q r = λ k d lt. (p k d lt, (q k d lt, r k d lt))
 
 -- a list of descriptions passes the test exactly where it keeps every rule
 pub sound_decides : (t : List Description) → Decides (well_formed t) (Sound t)
@@ -130,9 +119,9 @@ sound_decides t =
       most = h.0.1;
       messages = h.1.0;
       names = All-weaker (SoundInterface (length t)) (λ d. SoundName d.name) (λ _ s. s.0) t h.1.1.0;
-      requests = All-weaker (SoundInterface (length t)) (λ d. AllByRecursion (SoundRequest (length t)) d.requests) (λ _ s. s.1.0) t h.1.1.0;
-      events = All-weaker (SoundInterface (length t)) (λ d. AllByRecursion (SoundEvent (length t)) d.events) (λ _ s. s.1.1) t h.1.1.0;
+      requests = All-weaker (SoundInterface (length t)) (λ d. All (SoundRequest (length t)) d.requests) (λ _ s. s.1.0) t h.1.1.0;
+      events = All-weaker (SoundInterface (length t)) (λ d. All (SoundEvent (length t)) d.events) (λ _ s. s.1.1) t h.1.1.0;
       begins = h.1.1.1;
     })
-    (λ s. ((s.least, s.most), (s.messages, (all_three (λ d. SoundName d.name) (λ d. AllByRecursion (SoundRequest (length t)) d.requests) (λ d. AllByRecursion (SoundEvent (length t)) d.events) t s.names s.requests s.events, s.begins))))
-    (Decides-and _ _ (Decides-and _ _ (leb_decides 4 (length t)) (leb_decides (length t) 256)) (Decides-and _ _ (leb_decides (sum_by message_count t) 4096) (Decides-and _ _ (all_decides (interface_fits (length t)) (SoundInterface (length t)) (interface_decides (length t)) t) (alike_decides same_description description_decides (take 4 t) core))))
+    (λ s. ((s.least, s.most), (s.messages, (all_three (λ d. SoundName d.name) (λ d. All (SoundRequest (length t)) d.requests) (λ d. All (SoundEvent (length t)) d.events) t s.names s.requests s.events, s.begins))))
+    (Decides-and _ _ (Decides-and _ _ (leb_decides 4 (length t)) (leb_decides (length t) 256)) (Decides-and _ _ (leb_decides (sum_by message_count t) 4096) (Decides-and _ _ (all_decides (interface_fits (length t)) (SoundInterface (length t)) (interface_decides (length t)) t) (pointwise_decides description_decides (take 4 t) core))))

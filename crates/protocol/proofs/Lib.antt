@@ -1,8 +1,10 @@
+pub mod Chains
 pub mod CoreFound
 pub mod Damage
 pub mod Decisions
-pub mod Finds
+pub mod Equals
 pub mod Handles
+pub mod Names
 pub mod Pairs
 pub mod Scans
 pub mod Totals

@@ -1,8 +1,8 @@
--- Two lists compared place by place, one step of a loop after another.
-use Rattle.std.proofs.Common.{◌≡◌, ℕ, suc, ◌+◌, ◌<◌, ◌≤◌, Bool, true, false, ◌&&◌, List, [], ◌∷◌, map, length, get_or, drop, sym, refl, ap, ◌∙◌}
+-- Two lists compared place by place: by a chain over both together, and one step of a loop after another.
+use Rattle.std.proofs.Common.{◌≡◌, ℕ, suc, ◌+◌, ◌<◌, ◌≤◌, Bool, true, false, ◌&&◌, List, [], ◌∷◌, length, get_or, drop, zip, sym, refl, ap, ◌∙◌, arith}
 use Rattle.std.proofs.lemmas.List.{drop_more, drop_all}
 use Rattle.std.proofs.lemmas.Bool.{and_right}
-use Rattle.protocol.specs.Pairwise.{alike}
+use Rattle.protocol.specs.Pairwise.{all, alike}
 
 module _ {X Y : Type 0} (p : X → Y → Bool) where
   pub alike_apart : (xs : List X) (ys : List Y) → (length xs ≡ length ys → ⊥) → false ≡ alike p xs ys
@@ -24,8 +24,8 @@ module _ {X Y : Type 0} (p : X → Y → Bool) where
   pub alike_all : (xs : List X) (ys : List Y) (i : ℕ) → length xs ≤ i → length ys ≤ i → alike p (drop i xs) (drop i ys) ≡ alike p xs ys → true ≡ alike p xs ys
   alike_all xs ys i h k inv = sym (ap (λ (l : List X). alike p l (drop i ys)) (drop_all i xs h) ∙ ap (λ (l : List Y). alike p [] l) (drop_all i ys k)) ∙ inv
 
-pub alike_map : {X Y : Type 0} (p : Y → Y → Bool) (f : X → Y) (xs ys : List X) → alike (λ x y. p (f x) (f y)) xs ys ≡ alike p (map f xs) (map f ys)
-alike_map p f [] [] = refl
-alike_map p f [] (y ∷ ys) = refl
-alike_map p f (x ∷ xs) [] = refl
-alike_map p f (x ∷ xs) (y ∷ ys) = ap (λ b. p (f x) (f y) && b) (alike_map p f xs ys)
+pub alike_from_zip : {X Y : Type 0} (p : X → Y → Bool) (xs : List X) (ys : List Y) → length xs ≡ length ys → all (λ q. p q.0 q.1) (zip xs ys) ≡ alike p xs ys
+alike_from_zip p [] [] h = refl
+alike_from_zip p [] (y ∷ ys) h = absurd (omega arith)
+alike_from_zip p (x ∷ xs) [] h = absurd (omega arith)
+alike_from_zip p (x ∷ xs) (y ∷ ys) h = ap (λ b. p x y && b) (alike_from_zip p xs ys (omega arith))

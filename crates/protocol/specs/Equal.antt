@@ -1,5 +1,7 @@
 -- When two descriptions say the same.
-use Rattle.std.specs.Prelude.{ℕ, Bool, true, false, not, ◌&&◌, Some, None, Option, ◌==◌}
+use Rattle.std.specs.Prelude.{ℕ, Bool, ◌&&◌, nat_eq, ◌==◌}
+use Rattle.std.specs.Bool.{beq}
+use Rattle.std.specs.Option.{option_eq}
 use Rattle.std.specs.Str.{bytes_eq}
 use Rattle.protocol.specs.Descriptions.{Message, Description}
 use Rattle.protocol.specs.Pairwise.{alike}
@@ -24,22 +26,10 @@ exact_number Fd = 9
 abbrev pub identical : ArgumentType → ArgumentType → Bool
 identical a b = exact_number a == exact_number b
 
--- the same flag
-abbrev pub same_flag : Bool → Bool → Bool
-same_flag true b = b
-same_flag false b = not b
-
--- the same child interface, or none in both
-abbrev pub same_child : Option ℕ → Option ℕ → Bool
-same_child None None = true
-same_child None (Some j) = false
-same_child (Some i) None = false
-same_child (Some i) (Some j) = i == j
-
 -- the same in every part
 abbrev pub same_message : Message → Message → Bool
 same_message a b =
-    same_flag a.destructor b.destructor && (same_child a.child b.child && (bytes_eq a.args b.args && alike identical a.signature b.signature))
+    alike identical a.signature b.signature && (beq a.destructor b.destructor && (option_eq nat_eq a.child b.child && bytes_eq a.args b.args))
 
 -- the same in every part
 abbrev pub same_description : Description → Description → Bool

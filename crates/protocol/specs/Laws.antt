@@ -1,7 +1,6 @@
 -- What holds of tables and handles, whatever they are.
-use Rattle.std.specs.Prelude.{◌≡◌, ℕ, ◌<◌, true, false, ◌⊎◌, List, length, take, Some, None, Err, sum_by, Result, MatchResult, ◌≢◌}
+use Rattle.std.specs.Prelude.{◌≡◌, ℕ, ◌<◌, true, false, ◌⊎◌, List, length, take, Some, None, Err, Contains, sum_by, Result, MatchResult, ◌≢◌}
 use Rattle.std.specs.Borrow.{Bor}
-use Rattle.std.specs.List.{ContainsAt as Has}
 use Rattle.protocol.specs.Core.{display, registry, callback, anonymous, core}
 use Rattle.protocol.specs.Descriptions.{Message, Description, described}
 use Rattle.protocol.specs.Lookups.{table_of, in_table, interface_at, same_object}
@@ -23,11 +22,11 @@ Refused t = (is : Bor (List Interface)) → described is.now ≡ t → checked i
 
 -- a request of one of the interfaces
 abbrev pub RequestOf : List Description → Message → Type 0
-RequestOf t m = (d : Description) × (Has t d × Has d.requests m)
+RequestOf t m = (d : Description) × (Contains t d × Contains d.requests m)
 
 -- an event of one of the interfaces
 abbrev pub EventOf : List Description → Message → Type 0
-EventOf t m = (d : Description) × (Has t d × Has d.events m)
+EventOf t m = (d : Description) × (Contains t d × Contains d.events m)
 
 -- the core alone is a table
 abbrev pub CoreAccepted : Type 0
@@ -47,15 +46,15 @@ MessagesRefused = (t : List Description) → 4096 < sum_by message_count t → R
 
 -- an interface without a name is refused
 abbrev pub EmptyNameRefused : Type 0
-EmptyNameRefused = (t : List Description) (d : Description) → Has t d → length d.name ≡ 0 → Refused t
+EmptyNameRefused = (t : List Description) (d : Description) → Contains t d → length d.name ≡ 0 → Refused t
 
 -- a name of more than 64 bytes is refused
 abbrev pub LongNameRefused : Type 0
-LongNameRefused = (t : List Description) (d : Description) → Has t d → 64 < length d.name → Refused t
+LongNameRefused = (t : List Description) (d : Description) → Contains t d → 64 < length d.name → Refused t
 
 -- a name with a zero byte is refused
 abbrev pub ZeroNameRefused : Type 0
-ZeroNameRefused = (t : List Description) (d : Description) → Has t d → Has d.name 0 → Refused t
+ZeroNameRefused = (t : List Description) (d : Description) → Contains t d → Contains d.name 0 → Refused t
 
 -- a message of more than 20 arguments is refused
 abbrev pub ArgumentsRefused : Type 0
@@ -83,7 +82,7 @@ ChildOutsideRefused = (t : List Description) (m : Message) (i : ℕ) → Request
 
 -- an arg interface outside the table is refused
 abbrev pub ArgOutsideRefused : Type 0
-ArgOutsideRefused = (t : List Description) (m : Message) (i : ℕ) → RequestOf t m ⊎ EventOf t m → Has m.args i → (i < length t → ⊥) → Refused t
+ArgOutsideRefused = (t : List Description) (m : Message) (i : ℕ) → RequestOf t m ⊎ EventOf t m → Contains m.args i → (i < length t → ⊥) → Refused t
 
 -- other interfaces than the core ones in places 0 to 3 are refused
 abbrev pub CoreRefused : Type 0

@@ -1,14 +1,6 @@
 -- Tests of whole lists.
-use Rattle.std.specs.Prelude.{Bool, true, false, ◌&&◌, List, [], ◌∷◌}
 
 -- as many on both sides, and the test holds of each pair
-abbrev pub alike : {A B : Type 0} → (A → B → Bool) → List A → List B → Bool
-alike p [] [] = true
-alike p [] (y ∷ ys) = false
-alike p (x ∷ xs) [] = false
-alike p (x ∷ xs) (y ∷ ys) = p x y && alike p xs ys
-
+pub use Rattle.std.specs.Cmp.Lexicographic.{pointwise as alike}
 -- the test holds of each
-abbrev pub all : {A : Type 0} → (A → Bool) → List A → Bool
-all p [] = true
-all p (x ∷ xs) = p x && all p xs
+pub use Rattle.std.specs.List.{list_all as all}

@@ -4,14 +4,14 @@ ghost use Rattle.std.specs.Prelude.{◌≡◌};
 ghost use Rattle.protocol.specs.Arguments.{same_type, type_of, agrees};
 
 /// Whether an argument may be null.
-#[derive(Clone, Copy, PartialEq, Eq)]
+#[derive(Clone, Copy, Debug, PartialEq, Eq)]
 pub enum AllowNull {
     Yes,
     No,
 }
 
 /// The kinds of argument that the wire knows.
-#[derive(Clone, Copy, PartialEq, Eq)]
+#[derive(Clone, Copy, Debug, PartialEq, Eq)]
 pub enum ArgumentType {
     Int,
     Uint,
@@ -29,29 +29,25 @@ impl ArgumentType {
     pub fn same_type(self, other: ArgumentType) -> bool
         ensures { result ≡ same_type self other }
     {
-        match (self, other) {
-            (ArgumentType::Int, ArgumentType::Int) => true,
-            (ArgumentType::Uint, ArgumentType::Uint) => true,
-            (ArgumentType::Fixed, ArgumentType::Fixed) => true,
-            (ArgumentType::Str(_), ArgumentType::Str(_)) => true,
-            (ArgumentType::Object(_), ArgumentType::Object(_)) => true,
-            (ArgumentType::NewId, ArgumentType::NewId) => true,
-            (ArgumentType::Array, ArgumentType::Array) => true,
-            (ArgumentType::Fd, ArgumentType::Fd) => true,
-            _ => false,
-        }
+        self == other
+            || matches!(
+                (self, other),
+                (ArgumentType::Str(_), ArgumentType::Str(_))
+                    | (ArgumentType::Object(_), ArgumentType::Object(_))
+            )
     }
 }
 
 /// A part of the text room that goes with the arguments.
-#[derive(Clone, Copy)]
+#[derive(Clone, Copy, Debug, PartialEq, Eq)]
 pub struct Span {
     pub start: usize,
     pub len: usize,
 }
 
 /// An argument. A string or an array lies in the text room that goes with it.
-#[derive(Clone, Copy)]
+// No `==`: two spans tell nothing of two texts, and handles are compared in a table.
+#[derive(Clone, Copy, Debug)]
 pub enum Argument<Id> {
     Int(i32),
     Uint(u32),
@@ -85,13 +81,9 @@ impl<Id: Copy> Argument<Id> {
 pub fn check_for_signature<Id: Copy>(signature: &[ArgumentType], args: &[Argument<Id>]) -> bool
     ensures { result ≡ agrees signature.now args.now }
 {
-    if signature.len() != args.len() {
-        return false;
-    }
-    for i in 0..args.len() {
-        if !args[i].get_type().same_type(signature[i]) {
-            return false;
-        }
-    }
-    true
+    signature.len() == args.len()
+        && signature
+            .iter()
+            .zip(args)
+            .all(|(kind, arg)| arg.get_type().same_type(*kind))
 }

@@ -7,7 +7,8 @@ ghost use Rattle.protocol.specs.declared.error.WaylandError.TheVariants.{Io as I
 use std::fmt;
 
 /// A fault of the transport: the layer that it comes from, and a code of the system's.
-#[derive(Clone, Copy)]
+// The code is a number and no enum: the system's codes are an open set.
+#[derive(Clone, Copy, Debug, PartialEq, Eq)]
 pub struct TransportFault {
     pub layer: u32,
     pub code: u32,
@@ -23,7 +24,7 @@ impl TransportFault {
 }
 
 /// What broke the protocol.
-#[derive(Clone, Copy)]
+#[derive(Clone, Copy, Debug, PartialEq, Eq)]
 pub enum ProtocolReason {
     /// The server sent an `error` event with a text of this length.
     ErrorEvent {
@@ -58,6 +59,7 @@ impl ProtocolReason {
     pub fn number(self) -> u32
         ensures { result ≡ reason_number self }
     {
+        // By a match: `as u32` reads no enum whose variants hold values.
         match self {
             ProtocolReason::ErrorEvent { .. } => 1,
             ProtocolReason::Malformed => 2,
@@ -70,7 +72,7 @@ impl ProtocolReason {
 }
 
 /// The interface of the object that an error is about.
-#[derive(Clone, Copy)]
+#[derive(Clone, Copy, Debug, PartialEq, Eq)]
 pub enum ErrorInterface {
     /// The error is about no object.
     Empty,
@@ -81,7 +83,7 @@ pub enum ErrorInterface {
 }
 
 /// The server or the client broke the protocol.
-#[derive(Clone, Copy)]
+#[derive(Clone, Copy, Debug, PartialEq, Eq)]
 pub struct ProtocolError {
     pub code: u32,
     pub object_id: u32,
@@ -90,7 +92,7 @@ pub struct ProtocolError {
 }
 
 /// A fault of a connection.
-#[derive(Clone, Copy)]
+#[derive(Clone, Copy, Debug, PartialEq, Eq)]
 pub enum WaylandError {
     Io(TransportFault),
     Protocol(ProtocolError),
@@ -119,10 +121,7 @@ impl fmt::Display for TransportFault {
         match self.code {
             TransportFault::WOULD_BLOCK => f.pad("would block"),
             TransportFault::BROKEN_PIPE => f.pad("broken pipe"),
-            TransportFault::TOO_BIG => {
-                let layer = self.layer;
-                write!(f, "too big at layer {layer}")
-            }
+            TransportFault::TOO_BIG => write!(f, "too big at layer {}", self.layer),
             code => write!(f, "system error {code}"),
         }
     }
@@ -168,13 +167,10 @@ impl fmt::Display for ProtocolError {
     ghost output = { λ x. Some (protocol_text x) };
 
     fn fmt<W: fmt::Write>(&self, f: &mut fmt::Formatter<W>) -> fmt::Result {
-        let code = self.code;
-        let id = self.object_id;
-        let interface = self.object_interface;
-        let reason = self.reason;
         write!(
             f,
-            "Protocol error {code} on object {interface}@{id}: {reason}"
+            "Protocol error {} on object {}@{}: {}",
+            self.code, self.object_interface, self.object_id, self.reason
         )
     }
 }
@@ -189,3 +185,9 @@ impl fmt::Display for WaylandError {
         }
     }
 }
+
+impl std::error::Error for TransportFault {}
+
+impl std::error::Error for ProtocolError {}
+
+impl std::error::Error for WaylandError {}

@@ -8,7 +8,8 @@ use crate::table::InterfaceTable;
 
 /// A handle: the number of an object on the wire, the serial that tells it from others that had
 /// the number, and the number of its interface.
-#[derive(Clone, Copy)]
+// No `==`: `InterfaceTable::same_object` compares the names of the interfaces.
+#[derive(Clone, Copy, Debug)]
 pub struct ObjectId {
     pub number: u32,
     pub serial: u32,
@@ -58,7 +59,7 @@ impl InterfaceTable<'_> {
 }
 
 /// What an object is: its number on the wire, its interface and its version.
-#[derive(Clone, Copy)]
+#[derive(Clone, Copy, Debug)]
 pub struct ObjectInfo {
     pub id: u32,
     pub interface: u16,

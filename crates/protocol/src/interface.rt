@@ -3,7 +3,7 @@
 use crate::argument::ArgumentType;
 
 /// What a request or an event carries.
-#[derive(Clone, Copy)]
+#[derive(Clone, Copy, Debug, PartialEq, Eq)]
 pub struct MessageDesc<'a> {
     pub signature: &'a [ArgumentType],
     /// Whether the message destroys the object that it is sent to or comes from.
@@ -15,7 +15,7 @@ pub struct MessageDesc<'a> {
 }
 
 /// An interface: its name, and its messages by opcode.
-#[derive(Clone, Copy)]
+#[derive(Clone, Copy, Debug, PartialEq, Eq)]
 pub struct Interface<'a> {
     pub name: &'a [u8],
     pub requests: &'a [MessageDesc<'a>],

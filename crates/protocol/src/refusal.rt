@@ -6,34 +6,34 @@ ghost use Rattle.protocol.specs.Refusals.{refusal_number, refusal_text};
 use std::fmt;
 
 /// Every refusal of the library. A refused call changes nothing.
-#[derive(Clone, Copy, Debug)]
+#[derive(Clone, Copy, Debug, PartialEq, Eq)]
 pub enum Refusal {
     /// The handle does not resolve, or the client has destroyed its object where that counts.
-    InvalidId,
+    InvalidId = 1,
     /// The interface has no request of this opcode.
-    UnknownOpcode,
+    UnknownOpcode = 2,
     /// The arguments do not have the count or the kinds of the signature, a string holds a zero
     /// byte, or the text is over 1,024 bytes or lies outside its room.
-    BadSignature,
+    BadSignature = 3,
     /// The interface of the child is not in the table, its name or version is another than
     /// described, or none is given where the description leaves it open.
-    BadChild,
+    BadChild = 4,
     /// The client's slots are all taken.
-    ClientRoomFull,
+    ClientRoomFull = 5,
     /// A data number is 0 where an object takes one, or not 0 where none does.
-    BadData,
+    BadData = 6,
     /// The argument that stands for the new object is not null.
-    NewIdNotNull,
+    NewIdNotNull = 7,
     /// An object argument has another interface than expected, or is null where it may not be.
-    BadObject,
+    BadObject = 8,
     /// The display keeps its data number, and is not destroyed.
-    DisplayProtected,
+    DisplayProtected = 9,
     /// The token belongs to another connection or to another phase.
-    BadToken,
+    BadToken = 10,
     /// A round is open, or as many reads are prepared as can be.
-    CannotPrepare,
+    CannotPrepare = 11,
     /// A table that breaks a rule, or a room of the wrong size.
-    BadRoom,
+    BadRoom = 12,
 }
 
 impl Refusal {
@@ -41,20 +41,7 @@ impl Refusal {
     pub fn number(self) -> u32
         ensures { result ≡ refusal_number self }
     {
-        match self {
-            Refusal::InvalidId => 1,
-            Refusal::UnknownOpcode => 2,
-            Refusal::BadSignature => 3,
-            Refusal::BadChild => 4,
-            Refusal::ClientRoomFull => 5,
-            Refusal::BadData => 6,
-            Refusal::NewIdNotNull => 7,
-            Refusal::BadObject => 8,
-            Refusal::DisplayProtected => 9,
-            Refusal::BadToken => 10,
-            Refusal::CannotPrepare => 11,
-            Refusal::BadRoom => 12,
-        }
+        self as u32
     }
 
     /// What a refusal means, in a few words.
@@ -85,3 +72,5 @@ impl fmt::Display for Refusal {
         f.pad(self.text())
     }
 }
+
+impl std::error::Error for Refusal {}

@@ -1,8 +1,7 @@
 //! The interface table.
 
-ghost use Rattle.std.specs.Prelude.{◌≡◌, map};
+ghost use Rattle.std.specs.Prelude.{◌≡◌};
 ghost use Rattle.std.specs.Option.{option_map};
-ghost use Rattle.std.specs.List.{slice_get};
 ghost use Rattle.protocol.specs.Descriptions.{message_of, description_of};
 ghost use Rattle.protocol.specs.Laws.{Told};
 ghost use Rattle.protocol.specs.Lookups.{table_of, in_table, interface_at, name_at, request_at, event_at, same_interface, fits_interface};
@@ -11,7 +10,7 @@ ghost use Rattle.protocol.specs.Rules.{checked};
 use crate::core_interfaces::{ANONYMOUS, ANONYMOUS_INTERFACE};
 use crate::interface::{Interface, MessageDesc};
 use crate::refusal::Refusal;
-use crate::rules::{same_name, well_formed};
+use crate::rules::well_formed;
 
 /// The interfaces of a protocol, known to keep the rules.
 #[derive(Clone, Copy)]
@@ -21,6 +20,7 @@ pub struct InterfaceTable<'a> {
 
 impl<'a> InterfaceTable<'a> {
     /// A table of these interfaces, where they keep every rule.
+    #[tactic(auto, using(crate::proofs::Decisions::sound_decides))]
     pub fn new(interfaces: &'a [Interface<'a>]) -> Result<InterfaceTable<'a>, Refusal>
         ensures value { result ≡ checked interfaces.entry }
         ensures words { Told interfaces.now result }
@@ -43,15 +43,11 @@ impl<'a> InterfaceTable<'a> {
     pub fn interface(&self, number: u16) -> Interface<'a>
         ensures { description_of result ≡ interface_at (table_of self.now) number }
     {
-        let n = number as usize;
-        let anonymous = ANONYMOUS as usize;
-        if n < self.interfaces.len() {
-            self.interfaces[n]
-        } else if anonymous < self.interfaces.len() {
-            self.interfaces[anonymous]
-        } else {
-            ANONYMOUS_INTERFACE
-        }
+        self.interfaces
+            .get(number as usize)
+            .or(self.interfaces.get(ANONYMOUS as usize))
+            .copied()
+            .unwrap_or(ANONYMOUS_INTERFACE)
     }
 
     /// The name of an interface.
@@ -65,38 +61,33 @@ impl<'a> InterfaceTable<'a> {
     pub fn request(&self, interface: u16, opcode: u16) -> Option<MessageDesc<'a>>
         ensures { option_map message_of result ≡ request_at (table_of self.now) interface opcode }
     {
-        message_at(self.interface(interface).requests, opcode)
+        self.interface(interface)
+            .requests
+            .get(opcode as usize)
+            .copied()
     }
 
     /// What an event carries, if the interface has it.
     pub fn event(&self, interface: u16, opcode: u16) -> Option<MessageDesc<'a>>
         ensures { option_map message_of result ≡ event_at (table_of self.now) interface opcode }
     {
-        message_at(self.interface(interface).events, opcode)
+        self.interface(interface)
+            .events
+            .get(opcode as usize)
+            .copied()
     }
 
     /// Whether two interfaces have one name.
     pub fn same_interface(&self, a: u16, b: u16) -> bool
         ensures { result ≡ same_interface (table_of self.now) a b }
     {
-        same_name(self.name(a), self.name(b))
+        self.name(a) == self.name(b)
     }
 
     /// Whether an object of the interface `actual` fits where `expected` is asked for.
     pub fn fits(&self, expected: u16, actual: u16) -> bool
         ensures { result ≡ fits_interface (table_of self.now) expected actual }
     {
-        self.same_interface(expected, actual) || same_name(self.name(expected), b"<anonymous>")
-    }
-}
-
-fn message_at<'a>(messages: &'a [MessageDesc<'a>], opcode: u16) -> Option<MessageDesc<'a>>
-    ensures { option_map message_of result ≡ slice_get (map message_of messages.now) opcode }
-{
-    let place = opcode as usize;
-    if place < messages.len() {
-        Some(messages[place])
-    } else {
-        None
+        self.same_interface(expected, actual) || self.name(expected) == ANONYMOUS_INTERFACE.name
     }
 }

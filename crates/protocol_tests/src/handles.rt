@@ -1,44 +1,22 @@
 //! Handles by the table that they are compared in.
 
-use protocol::core_interfaces::{
-    ANONYMOUS_INTERFACE, WL_CALLBACK_INTERFACE, WL_DISPLAY_INTERFACE, WL_REGISTRY_INTERFACE,
-};
+use protocol::core_interfaces::core_interfaces;
 use protocol::id::ObjectId;
 use protocol::interface::Interface;
 use protocol::refusal::Refusal;
 use protocol::table::InterfaceTable;
 use std::test::Fail;
 
-/// Whether two handles are equal in a table of the core and one interface more.
-fn same_in(
-    display: Interface<'static>,
-    registry: Interface<'static>,
-    callback: Interface<'static>,
-    anonymous: Interface<'static>,
-    last: Interface<'static>,
-    a: ObjectId,
-    b: ObjectId,
-) -> Result<bool, Refusal> {
-    let interfaces = [display, registry, callback, anonymous, last];
-    Ok(InterfaceTable::new(&interfaces)?.same_object(a, b))
-}
-
-/// The same where interface 4 is a second `wl_callback`.
+/// Whether two handles are the same in a table whose interface 4 is a second `wl_callback`.
 fn same(a: ObjectId, b: ObjectId) -> Result<bool, Refusal> {
+    let [display, registry, callback, anonymous] = core_interfaces();
     let second = Interface {
         name: b"wl_callback",
         requests: &[],
         events: &[],
     };
-    same_in(
-        WL_DISPLAY_INTERFACE,
-        WL_REGISTRY_INTERFACE,
-        WL_CALLBACK_INTERFACE,
-        ANONYMOUS_INTERFACE,
-        second,
-        a,
-        b,
-    )
+    let interfaces = [display, registry, callback, anonymous, second];
+    Ok(InterfaceTable::new(&interfaces)?.same_object(a, b))
 }
 
 #[test]

@@ -3,6 +3,7 @@
 use protocol::argument::{AllowNull, ArgumentType};
 use protocol::core_interfaces::{
     ANONYMOUS_INTERFACE, WL_CALLBACK_INTERFACE, WL_DISPLAY_INTERFACE, WL_REGISTRY_INTERFACE,
+    core_interfaces,
 };
 use protocol::interface::{Interface, MessageDesc};
 use protocol::table::InterfaceTable;
@@ -48,26 +49,15 @@ macro_rules! event {
     };
 }
 
-/// Whether these five make a table.
-fn makes_table(
-    a: Interface<'static>,
-    b: Interface<'static>,
-    c: Interface<'static>,
-    d: Interface<'static>,
-    e: Interface<'static>,
-) -> bool {
-    InterfaceTable::new(&[a, b, c, d, e]).is_ok()
+/// Whether these make a table.
+fn makes_table(interfaces: [Interface<'static>; 5]) -> bool {
+    InterfaceTable::new(&interfaces).is_ok()
 }
 
 /// Whether the core with one interface more makes a table.
 fn accepts(last: Interface<'static>) -> bool {
-    makes_table(
-        WL_DISPLAY_INTERFACE,
-        WL_REGISTRY_INTERFACE,
-        WL_CALLBACK_INTERFACE,
-        ANONYMOUS_INTERFACE,
-        last,
-    )
+    let [display, registry, callback, anonymous] = core_interfaces();
+    makes_table([display, registry, callback, anonymous, last])
 }
 
 #[test]
@@ -150,23 +140,23 @@ fn interfaces(rt: HostRuntime) -> Result<(), Fail> {
 #[test]
 fn core(rt: HostRuntime) -> Result<(), Fail> {
     assert!(rt;
-        !makes_table(
+        !makes_table([
             WL_REGISTRY_INTERFACE,
             WL_DISPLAY_INTERFACE,
             WL_CALLBACK_INTERFACE,
             ANONYMOUS_INTERFACE,
             PANE,
-        ),
+        ]),
         "swapped"
     );
     assert!(rt;
-        !makes_table(
+        !makes_table([
             WL_DISPLAY_INTERFACE,
             WL_REGISTRY_INTERFACE,
             PANE,
             ANONYMOUS_INTERFACE,
             PANE,
-        ),
+        ]),
         "another name"
     );
     let lasting = Interface {
@@ -174,13 +164,13 @@ fn core(rt: HostRuntime) -> Result<(), Fail> {
         ..event!(signature: &[ArgumentType::Uint])
     };
     assert!(rt;
-        !makes_table(
+        !makes_table([
             WL_DISPLAY_INTERFACE,
             WL_REGISTRY_INTERFACE,
             lasting,
             ANONYMOUS_INTERFACE,
             PANE,
-        ),
+        ]),
         "done does not destroy"
     );
     Ok(())

@@ -1,23 +1,12 @@
-use Rattle.std.proofs.Common.{◌≡◌, Bool, refl, arith, rules}
+use Rattle.std.proofs.Common.{◌∙◌, tests, rules, arith}
+use Rattle.std.proofs.lemmas.Iterator.{YieldsList-from_slice, YieldsList-from_zip}
+use Rattle.std.proofs.lemmas.Iterator.Consumers.{YieldsList-at}
+use Rattle.std.proofs.lemmas.Iterator.Search.{all_from_yields_List}
 use Rattle.protocol.specs.Arguments.{same_type, type_of}
-use Rattle.protocol.specs.declared.argument.Argument.{Argument}
-use Rattle.protocol.specs.declared.argument.ArgumentType.{ArgumentType}
-use Rattle.protocol.proofs.Pairs.{alike_apart, alike_no, alike_more, alike_all}
+use Rattle.protocol.proofs.Pairs.{alike_from_zip}
 use Rattle.protocol.proofs.argument.check_for_signature.Goals as goal
 
-told : {Id : Type 0} (b : Bool) (t k : ArgumentType) (x y : Argument Id) → b ≡ same_type k t → k ≡ type_of x → x ≡ y → b ≡ same_type (type_of y) t
-told b t k x y p q r = cc
-
 pub returns-then-signature-args : goal.returns-then-signature-args
-returns-then-signature-args g c = search (rules, alike_apart)
-
-pub returns-then-not-same_type : goal.returns-then-not-same_type
-returns-then-not-same_type g c =
-    alike_no (λ t a. same_type (type_of a) t) c.args.signature.now c.args.args.now c.loop-i.i _ _ (omega arith) (omega arith) _ (told _ _ _ _ _ c.if-not-same_type.ensures c.get_type.ensures c.index-args-i.is) refl c.loop-i.invariant
-
-pub loop-i-preserved : goal.loop-i-preserved
-loop-i-preserved g c =
-    alike_more (λ t a. same_type (type_of a) t) c.args.signature.now c.args.args.now c.loop-i.i _ _ (omega arith) (omega arith) _ (told _ _ _ _ _ c.if-not-same_type.ensures c.get_type.ensures c.index-args-i.is) refl c.loop-i.invariant
-
-pub returns : goal.returns
-returns g c = alike_all _ c.args.signature.now c.args.args.now c.loop-i.i (omega arith) (omega arith) c.loop-i.invariant
+returns-then-signature-args g c =
+    all_from_yields_List (λ p. same_type (type_of p.1) p.0) c.all.new.self _ c.all.result c.all.ensures.ran (YieldsList-from_zip (YieldsList-at c.zip.ensures.first (YieldsList-from_slice c.args.signature.now c.iter.ensures.rest)) (YieldsList-from_slice c.args.args.now c.zip.ensures.second.0)) (λ x b q k. search (rules, tests))
+    ∙ alike_from_zip (λ t a. same_type (type_of a) t) c.args.signature.now c.args.args.now (omega arith)
