@@ -6,7 +6,7 @@ ghost use Rattle.protocol.specs.Refusals.{refusal_number, refusal_text};
 use std::fmt;
 
 /// Every refusal of the library. A refused call changes nothing.
-#[derive(Clone, Copy, Debug)]
+#[derive(Clone, Copy, PartialEq, Eq, Debug)]
 pub enum Refusal {
     /// The handle does not resolve, or the client has destroyed its object where that counts.
     InvalidId,

@@ -47,13 +47,10 @@ fn carry<A: World, B: World>(from: &mut A, to: &mut B) {
 }
 
 /// The number that a frame carries, once its arguments are taken into a room.
-fn carried(args: &[Argument<ObjectId>]) -> u32 {
-    if args.is_empty() {
-        return 0;
-    }
-    match args[0] {
-        Argument::Uint(value) => value,
-        _ => 0,
+fn carried(args: &[Argument<ObjectId>]) -> Option<u32> {
+    match args {
+        [Argument::Uint(value), ..] => Some(*value),
+        _ => None,
     }
 }
 
@@ -69,7 +66,7 @@ fn receive<E: Transport>(
         if end.take(&[ArgumentType::Uint], args, text).is_err() {
             return all;
         }
-        let value = u64::from(carried(args));
+        let value = carried(args).map_or(0, u64::from);
         all = Arrived {
             frames: all.frames.saturating_add(1),
             sum: all.sum.saturating_add(value),

@@ -1,7 +1,7 @@
 -- What a frame holds, once it is written, read and checked against a signature.
-use Rattle.std.proofs.Common.{◌≡◌, ℕ, ◌-◌, ◌≤◌, min, true, false, leb, List, [], ◌∷◌, map, length, take, drop, Some, None, Ok, Err, sym, refl, ap, ◌∙◌, arith}
+use Rattle.std.proofs.Common.{◌≡◌, ℕ, ◌-◌, min, Bool, true, false, cond, List, [], ◌∷◌, map, length, take, drop, Some, None, Ok, Err, Result, sym, refl, ap, ◌∙◌, arith}
 use Rattle.std.proofs.lemmas.List.{take_at, take-map}
-use Rattle.std.proofs.lemmas.Bool.{leb-true, and_parts, cond-true, cond-false}
+use Rattle.std.proofs.lemmas.Bool.{cond-true, cond-false}
 use Rattle.protocol.specs.declared.argument.Argument.{Argument}
 use Rattle.protocol.specs.declared.argument.Argument.TheVariants.{Int, Uint, Fixed, Str, Object, NewId, Array, Fd}
 use Rattle.protocol.specs.declared.argument.ArgumentType.{ArgumentType}
@@ -65,6 +65,10 @@ pub fits_front : (c n : ℕ) (text : List ℕ) (ts : List ArgumentType) (args : 
 fits_front c n text ts args e =
     ap (λ (l : List Arg). fits ts (clip 1024 l)) (front c args text ∙ ap (λ (k : ℕ). args_of (take k args) text) (sym e)) ∙ fits_clip 1024 text ts (take n args)
 
+roomy_ok : (b : Bool) → ◌≡◌ {A = Result (Unit {0}) Refusal} (Ok tt) (cond b (Ok tt) (Err BadRoom)) → b ≡ true
+roomy_ok true e = refl
+roomy_ok false e = let z : ◌≡◌ {A = ℕ} 0 1 = cc in absurd (omega arith)
+
 abbrev answered : {E : Type 0} → ℕ × List (Argument ObjectId) × List ℕ → Filled ℕ E
 answered t = (Ok t.0, t.1, t.2)
 
@@ -73,17 +77,11 @@ module _ (args : List (Argument ObjectId)) (text : List ℕ) where
     filled_so : {E : Type 0} → ◌≡◌ {A = Filled ℕ E} (Ok n, args', text') (filled xs args text)
     filled_so {E} = ap (answered {E = E}) laid ∙ ap (λ (l : List Arg). filled l args text) same
 
-    pub read_so : true ≡ roomy args text → ◌≡◌ {A = Filled ℕ Refusal} (Ok n, args', text') (reading xs args text)
-    read_so room = filled_so ∙ sym (cond-true (roomy args text) (filled xs args text) (Err BadRoom, args, text) (sym room))
+    pub read_so : ◌≡◌ {A = Result (Unit {0}) Refusal} (Ok tt) (cond (roomy args text) (Ok tt) (Err BadRoom)) → ◌≡◌ {A = Filled ℕ Refusal} (Ok n, args', text') (reading xs args text)
+    read_so room = filled_so ∙ sym (cond-true (roomy args text) (filled xs args text) (Err BadRoom, args, text) (roomy_ok (roomy args text) room))
 
     pub unpacked_so : (ts : List ArgumentType) → fits ts xs ≡ true → ◌≡◌ {A = Filled ℕ TakeError} (Ok n, args', text') (unpacking ts xs args text)
     unpacked_so ts fit = filled_so ∙ sym (cond-true (fits ts xs) (filled xs args text) (Err Malformed, args, text) fit)
 
   pub malformed_so : (xs : List Arg) (ts : List ArgumentType) → fits ts xs ≡ false → ◌≡◌ {A = Filled ℕ TakeError} (Err Malformed, args, text) (unpacking ts xs args text)
   malformed_so xs ts fit = sym (cond-false (fits ts xs) (filled xs args text) (Err Malformed, args, text) fit)
-
--- rooms that were found to be large enough
-pub roomy_places : (args : List (Argument ObjectId)) (text : List ℕ) → true ≡ roomy args text → (20 ≤ length args) × (1024 ≤ length text)
-roomy_places args text e =
-    let p = and_parts (leb 20 (length args)) (leb 1024 (length text)) (sym e) in
-    (leb-true 20 (length args) p.0, leb-true 1024 (length text) p.1)

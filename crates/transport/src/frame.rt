@@ -1,10 +1,12 @@
 //! A frame: a message in a place of fixed size, written only as far as it is used.
 
-ghost use Rattle.std.specs.Prelude.{◌≡◌, ◌≤◌, [], length};
+ghost use Rattle.std.specs.Prelude.{◌≡◌, ◌≤◌, [], length, if◌then◌else◌};
+ghost use Rattle.protocol.specs.declared.refusal.Refusal.TheVariants.{BadRoom};
 ghost use Rattle.transport.specs.Signatures.{takes, kind_of, fits_raw};
 ghost use Rattle.transport.specs.Layout.{arg_of};
 ghost use Rattle.transport.specs.Drafts.{outgoing_of};
 ghost use Rattle.transport.specs.Frames.{frame_of, roomy, reading, unpacking};
+ghost use Rattle.transport.specs.declared.frame.TakeError.TheVariants.{Refused};
 
 use crate::layout::{MAX_ARGS, MAX_TEXT, lay};
 use crate::outgoing::Outgoing;
@@ -23,12 +25,20 @@ pub struct Frame {
 }
 
 /// Why no frame was taken.
-#[derive(Clone, Copy)]
+#[derive(Clone, Copy, PartialEq, Eq, Debug)]
 pub enum TakeError {
     /// No frame waits, or it does not fit the signature.
     Malformed,
     /// A room is too small for a frame.
     Refused(Refusal),
+}
+
+impl From<Refusal> for TakeError {
+    ghost from_gives = { λ x r. r ≡ Refused x };
+
+    fn from(refusal: Refusal) -> TakeError {
+        TakeError::Refused(refusal)
+    }
 }
 
 impl Frame {
@@ -81,9 +91,7 @@ impl Frame {
     pub fn read(&self, args: &mut [Argument<ObjectId>], text: &mut [u8]) -> Result<usize, Refusal>
         ensures { (result, args.new, text.new) ≡ reading (frame_of self.now).args args.old text.old }
     {
-        if !has_room(args, text) {
-            return Err(Refusal::BadRoom);
-        }
+        check_rooms(args, text)?;
         let count = self.count.min(MAX_ARGS);
         Ok(lay(0, &self.args[0..count], &self.text, args, text))
     }
@@ -108,39 +116,39 @@ impl Frame {
 }
 
 /// Whether any frame fits into two rooms.
-pub(crate) fn has_room(args: &[Argument<ObjectId>], text: &[u8]) -> bool
-    ensures { result ≡ roomy args.now text.now }
+pub(crate) fn check_rooms(args: &[Argument<ObjectId>], text: &[u8]) -> Result<(), Refusal>
+    ensures { result ≡ (if roomy args.now text.now then Ok tt else Err BadRoom) }
 {
-    args.len() >= MAX_ARGS && text.len() >= MAX_TEXT
+    if args.len() >= MAX_ARGS && text.len() >= MAX_TEXT {
+        Ok(())
+    } else {
+        Err(Refusal::BadRoom)
+    }
 }
 
 fn accepts(kind: ArgumentType, arg: Argument<ObjectId>) -> bool
     ensures { result ≡ takes kind (kind_of (arg_of [] arg)) }
 {
-    match (kind, arg) {
-        (ArgumentType::Int, Argument::Int(_)) => true,
-        (ArgumentType::Uint, Argument::Uint(_)) => true,
-        (ArgumentType::Fixed, Argument::Fixed(_)) => true,
-        (ArgumentType::Str(AllowNull::Yes), Argument::Str(_)) => true,
-        (ArgumentType::Str(AllowNull::No), Argument::Str(Some(_))) => true,
-        (ArgumentType::Object(_), Argument::Object(_)) => true,
-        (ArgumentType::NewId, Argument::NewId(_)) => true,
-        (ArgumentType::Array, Argument::Array(_)) => true,
-        (ArgumentType::Fd, Argument::Fd(_)) => true,
-        _ => false,
-    }
+    matches!(
+        (kind, arg),
+        (ArgumentType::Int, Argument::Int(_))
+            | (ArgumentType::Uint, Argument::Uint(_))
+            | (ArgumentType::Fixed, Argument::Fixed(_))
+            | (ArgumentType::Str(AllowNull::Yes), Argument::Str(_))
+            | (ArgumentType::Str(AllowNull::No), Argument::Str(Some(_)))
+            | (ArgumentType::Object(_), Argument::Object(_))
+            | (ArgumentType::NewId, Argument::NewId(_))
+            | (ArgumentType::Array, Argument::Array(_))
+            | (ArgumentType::Fd, Argument::Fd(_))
+    )
 }
 
 fn accepts_all(signature: &[ArgumentType], args: &[Argument<ObjectId>]) -> bool
     ensures { result ≡ fits_raw signature.now args.now }
 {
-    if signature.len() != args.len() {
-        return false;
-    }
-    for i in 0..args.len() {
-        if !accepts(signature[i], args[i]) {
-            return false;
-        }
-    }
-    true
+    signature.len() == args.len()
+        && signature
+            .iter()
+            .zip(args)
+            .all(|(kind, arg)| accepts(*kind, *arg))
 }

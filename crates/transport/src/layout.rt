@@ -57,23 +57,21 @@ fn lay_one(
     ensures { (result, room.new) ≡ lay_one at (given child (arg_of text.now arg)) room.old }
 {
     match arg {
-        Argument::Str(string) => match string {
-            Some(span) => {
-                let len = copy_span(text, span, room, at);
-                (Argument::Str(Some(Span { start: at, len })), at + len)
-            }
-            None => (arg, at),
-        },
+        Argument::Str(Some(span)) => {
+            let len = copy_span(text, span, room, at);
+            (Argument::Str(Some(Span { start: at, len })), at + len)
+        }
         Argument::Array(span) => {
             let len = copy_span(text, span, room, at);
             (Argument::Array(Span { start: at, len }), at + len)
         }
         Argument::Object(id) => (Argument::Object(raw_handle(id.number)), at),
         Argument::NewId(id) => (Argument::NewId(raw_handle(number_or(child, id.number))), at),
-        Argument::Int(_) => (arg, at),
-        Argument::Uint(_) => (arg, at),
-        Argument::Fixed(_) => (arg, at),
-        Argument::Fd(_) => (arg, at),
+        Argument::Str(None)
+        | Argument::Int(_)
+        | Argument::Uint(_)
+        | Argument::Fixed(_)
+        | Argument::Fd(_) => (arg, at),
     }
 }
 
@@ -90,12 +88,10 @@ pub(crate) fn lay(
     requires room { 1024 ≤ length room.old }
     ensures { (result, places.new, room.new) ≡ lay_into (held (map (given child) (args_of args.now text.now))) places.old room.old }
 {
-    let count = args.len().min(MAX_ARGS);
+    let args = &args[..args.len().min(MAX_ARGS)];
     let mut end = 0;
-    for i in 0..count {
-        let (arg, next) = lay_one(child, args[i], text, room, end);
-        places[i] = arg;
-        end = next;
+    for (i, arg) in args.iter().enumerate() {
+        (places[i], end) = lay_one(child, *arg, text, room, end);
     }
-    count
+    args.len()
 }

@@ -1,10 +1,11 @@
 //! The end at the bottom: two rooms of frames that the caller lends, and what the world does to them.
 
-ghost use Rattle.std.specs.Prelude.{◌≡◌, [], length};
+ghost use Rattle.std.specs.Prelude.{◌≡◌, [], length, refl};
 ghost use Rattle.transport.specs.Ends.{taking};
 ghost use Rattle.transport.specs.Lists.{list_of, list_means, stop_of, fresh};
+ghost use Rattle.transport.specs.Grounds.{list_grounded};
 
-use crate::frame::{Frame, TakeError, has_room};
+use crate::frame::{Frame, TakeError, check_rooms};
 use crate::outgoing::Outgoing;
 use crate::ring::Ring;
 use crate::transport::Transport;
@@ -12,7 +13,6 @@ use crate::world::World;
 use protocol::argument::{Argument, ArgumentType};
 use protocol::error::TransportFault;
 use protocol::id::ObjectId;
-use protocol::refusal::Refusal;
 
 /// Frames wait in one room to be taken, and frames that were put stay in the other until they are collected.
 #[derive(Drop)]
@@ -62,13 +62,11 @@ impl ListEnd<'_> {
     ) -> Result<usize, TakeError>
         ensures { (result, args.new, text.new) ≡ (taking signature.now (list_means self.now) args.old text.old).0 }
     {
-        if !has_room(args, text) {
-            return Err(TakeError::Refused(Refusal::BadRoom));
-        }
-        let room = &*self.incoming;
-        let Some(frame) = self.waiting.get(room, 0) else {
-            return Err(TakeError::Malformed);
-        };
+        check_rooms(args, text)?;
+        let frame = self
+            .waiting
+            .get(self.incoming, 0)
+            .ok_or(TakeError::Malformed)?;
         frame.unpack(signature, args, text)
     }
 }
@@ -76,9 +74,10 @@ impl ListEnd<'_> {
 impl<'a> Transport for ListEnd<'a> {
     ghost means = { list_means };
 
+    ghost grounded = { list_grounded };
+
     fn first(&self) -> Result<(u32, u16), TransportFault> {
-        let room = &*self.incoming;
-        if let Some(frame) = self.waiting.get(room, 0) {
+        if let Some(frame) = self.waiting.get(self.incoming, 0) {
             return Ok(frame.head());
         }
         let stop = stop_code(self.read_stop);
@@ -97,8 +96,7 @@ impl<'a> Transport for ListEnd<'a> {
         text: &mut [u8],
     ) -> Result<usize, TakeError> {
         let count = self.unpack_first(signature, args, text)?;
-        let places = self.incoming.len();
-        self.waiting.release(places, 1);
+        self.waiting.release(self.incoming.len(), 1);
         Ok(count)
     }
 
@@ -110,10 +108,7 @@ impl<'a> Transport for ListEnd<'a> {
                 code: stop,
             });
         }
-        let mut sent = self.sent;
-        let placed = sent.push(&mut *self.outgoing, message);
-        self.sent = sent;
-        if placed {
+        if self.sent.push(self.outgoing, message) {
             Ok(())
         } else {
             Err(TransportFault {
@@ -136,17 +131,15 @@ impl<'a> World for ListEnd<'a> {
 
     ghost above = { λ _. [] };
 
+    ghost stack = { λ _. refl };
+
     fn deliver(&mut self, message: &Outgoing<'_>) -> bool {
-        let mut waiting = self.waiting;
-        let placed = waiting.push(&mut *self.incoming, message);
-        self.waiting = waiting;
-        placed
+        self.waiting.push(self.incoming, message)
     }
 
     fn collect(&mut self, n: usize) -> usize {
         let gone = n.min(self.sent_len());
-        let places = self.outgoing.len();
-        self.sent.release(places, n);
+        self.sent.release(self.outgoing.len(), n);
         gone
     }
 
@@ -155,8 +148,7 @@ impl<'a> World for ListEnd<'a> {
     }
 
     fn sent_at(&self, i: usize) -> Option<&Frame> {
-        let room = &*self.outgoing;
-        self.sent.get(room, i)
+        self.sent.get(self.outgoing, i)
     }
 
     fn set_read_stop(&mut self, code: u32) {

@@ -22,16 +22,13 @@ pub trait World: Transport {
     /// A message arrives, and waits behind the others; false where there is no place for it.
     fn deliver(&mut self, message: &Outgoing<'_>) -> bool
         ensures defined { (result, bottom self.new) ≡ delivering (outgoing_of message.now) (bottom self.old) }
-        ensures above { above self.new ≡ above self.old }
-        ensures stack { Self.Transport.means self.new ≡ stacked (bottom self.new) (above self.new) };
+        ensures above { above self.new ≡ above self.old };
 
     /// The first `n` frames that were sent and reached the bottom go, and their places are free again. Answers how many
     /// there were.
     fn collect(&mut self, n: usize) -> usize
         ensures defined { (result, bottom self.new) ≡ collecting n (bottom self.old) }
-        ensures above { above self.new ≡ above self.old }
-        ensures before { Self.Transport.means self.old ≡ stacked (bottom self.old) (above self.old) }
-        ensures stack { Self.Transport.means self.new ≡ stacked (bottom self.new) (above self.new) };
+        ensures above { above self.new ≡ above self.old };
 
     /// How many sent frames there are at the bottom.
     fn sent_len(&self) -> usize
@@ -44,12 +41,13 @@ pub trait World: Transport {
     /// Reading meets this code once no frame waits; 0 is none, and 11 is read as none.
     fn set_read_stop(&mut self, code: u32)
         ensures defined { bottom self.new ≡ stopping_reads code (bottom self.old) }
-        ensures above { above self.new ≡ above self.old }
-        ensures stack { Self.Transport.means self.new ≡ stacked (bottom self.new) (above self.new) };
+        ensures above { above self.new ≡ above self.old };
 
     /// Writing meets this code; 0 is none, and 11 is read as none.
     fn set_write_stop(&mut self, code: u32)
         ensures defined { bottom self.new ≡ stopping_writes code (bottom self.old) }
-        ensures above { above self.new ≡ above self.old }
-        ensures stack { Self.Transport.means self.new ≡ stacked (bottom self.new) (above self.new) };
+        ensures above { above self.new ≡ above self.old };
+
+    // A law: what an end means is what lies at the bottom, and above it.
+    ghost stack: { (s : Self) → Self.Transport.means s ≡ stacked (bottom s) (above s) };
 }
