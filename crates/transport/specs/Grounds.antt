@@ -4,7 +4,7 @@ use Rattle.std.proofs.Common.{arith}
 use Rattle.std.proofs.lemmas.Bool.Decides.{nat_tests}
 use Rattle.transport.specs.Rings.{Queue}
 use Rattle.transport.specs.Ends.{End, Grounded}
-use Rattle.transport.specs.Lists.{stop_of, list_means}
+use Rattle.transport.specs.Lists.{code_of, stop_of, list_means}
 use Rattle.transport.specs.Layers.{total, over, held_of}
 use Rattle.transport.specs.declared.list_end.ListEnd.{ListEnd}
 use Rattle.transport.specs.Kept.{Kept}
@@ -14,7 +14,7 @@ stops_so : (code : ℕ) → stop_of code ≡ 11 → ⊥
 stops_so code h = grind (arith, nat_tests)
 
 pub list_grounded : (s : ListEnd) → Grounded (list_means s)
-list_grounded s = record { low = λ _. refl; reads = stops_so s.read_stop; stops = stops_so s.write_stop }
+list_grounded s = record { low = λ _. refl; reads = stops_so (code_of s.read_stop); stops = stops_so (code_of s.write_stop) }
 
 -- a layer has a place
 pub held_some : (k : Kept) → 0 < total (held_of k)

@@ -135,11 +135,11 @@ impl<E: World> World for BufferedEnd<E> {
         self.lower.sent_at(i)
     }
 
-    fn set_read_stop(&mut self, code: u32) {
-        self.lower.set_read_stop(code);
+    fn set_read_stop(&mut self, stop: Option<u32>) {
+        self.lower.set_read_stop(stop);
     }
 
-    fn set_write_stop(&mut self, code: u32) {
-        self.lower.set_write_stop(code);
+    fn set_write_stop(&mut self, stop: Option<u32>) {
+        self.lower.set_write_stop(stop);
     }
 }

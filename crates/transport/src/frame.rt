@@ -1,14 +1,10 @@
 //! A frame: a message in a place of fixed size, written only as far as it is used.
 
-ghost use Rattle.std.specs.Prelude.{◌≡◌, ◌≤◌, [], length, if◌then◌else◌};
-ghost use Rattle.protocol.specs.declared.refusal.Refusal.TheVariants.{BadRoom};
-ghost use Rattle.transport.specs.Signatures.{takes, kind_of, fits_raw};
+ghost use Rattle.std.specs.Prelude.{◌≡◌, ◌≤◌, [], length};
 ghost use Rattle.transport.specs.Layout.{arg_of};
-ghost use Rattle.transport.specs.Drafts.{outgoing_of};
-ghost use Rattle.transport.specs.Frames.{frame_of, roomy, reading, unpacking};
-ghost use Rattle.transport.specs.declared.frame.TakeError.TheVariants.{Refused};
+ghost use Rattle.transport.specs.Signatures.{takes, kind_of, fits_raw};
 
-use crate::layout::{MAX_ARGS, MAX_TEXT, lay};
+use crate::layout::{check_rooms, lay};
 use crate::outgoing::Outgoing;
 use protocol::argument::{AllowNull, Argument, ArgumentType};
 use protocol::id::ObjectId;
@@ -22,6 +18,7 @@ pub struct Frame {
     count: usize,
     args: [Argument<ObjectId>; 20],
     text: [u8; 1024],
+    ghost few: { count ≤ 20 },
 }
 
 /// Why no frame was taken.
@@ -34,6 +31,8 @@ pub enum TakeError {
 }
 
 impl From<Refusal> for TakeError {
+    ghost use Rattle.transport.specs.declared.frame.TakeError.TheVariants.{Refused};
+
     ghost from_gives = { λ x r. r ≡ Refused x };
 
     fn from(refusal: Refusal) -> TakeError {
@@ -42,6 +41,9 @@ impl From<Refusal> for TakeError {
 }
 
 impl Frame {
+    ghost use Rattle.transport.specs.Drafts.{outgoing_of};
+    ghost use Rattle.transport.specs.Frames.{frame_of, reading, unpacking};
+
     /// A place to fill: a frame without arguments.
     pub const EMPTY: Frame = Frame {
         sender: 0,
@@ -62,12 +64,11 @@ impl Frame {
     pub fn message(&self) -> Outgoing<'_>
         ensures { outgoing_of result ≡ frame_of self.now }
     {
-        let count = self.count.min(MAX_ARGS);
         Outgoing {
             sender: self.sender,
             opcode: self.opcode,
             child: 0,
-            args: &self.args[0..count],
+            args: &self.args[..self.count],
             text: &self.text,
         }
     }
@@ -92,8 +93,7 @@ impl Frame {
         ensures { (result, args.new, text.new) ≡ reading (frame_of self.now).args args.old text.old }
     {
         check_rooms(args, text)?;
-        let count = self.count.min(MAX_ARGS);
-        Ok(lay(0, &self.args[0..count], &self.text, args, text))
+        Ok(lay(0, &self.args[..self.count], &self.text, args, text))
     }
 
     /// The same where the arguments fit a signature.
@@ -107,22 +107,10 @@ impl Frame {
         requires text { 1024 ≤ length text.old }
         ensures { (result, args.new, text.new) ≡ unpacking signature.now (frame_of self.now).args args.old text.old }
     {
-        let count = self.count.min(MAX_ARGS);
-        if !accepts_all(signature, &self.args[0..count]) {
+        if !accepts_all(signature, &self.args[..self.count]) {
             return Err(TakeError::Malformed);
         }
-        Ok(lay(0, &self.args[0..count], &self.text, args, text))
-    }
-}
-
-/// Whether any frame fits into two rooms.
-pub(crate) fn check_rooms(args: &[Argument<ObjectId>], text: &[u8]) -> Result<(), Refusal>
-    ensures { result ≡ (if roomy args.now text.now then Ok tt else Err BadRoom) }
-{
-    if args.len() >= MAX_ARGS && text.len() >= MAX_TEXT {
-        Ok(())
-    } else {
-        Err(Refusal::BadRoom)
+        Ok(lay(0, &self.args[..self.count], &self.text, args, text))
     }
 }
 

@@ -1,17 +1,31 @@
 //! Arguments and their texts, copied from room to room.
 
 ghost use Rattle.std.specs.Prelude.{◌≡◌, ◌+◌, ◌-◌, ◌≤◌, map, length, take, if◌then◌else◌, nat_eq};
+ghost use Rattle.protocol.specs.declared.refusal.Refusal.TheVariants.{BadRoom};
 ghost use Rattle.transport.specs.Wire.{given, held};
+ghost use Rattle.transport.specs.Frames.{roomy};
 ghost use Rattle.transport.specs.Layout.{arg_of, args_of, raw, spanned, overwritten, lay_one, lay_into};
 
 use protocol::argument::{Argument, Span};
 use protocol::core_interfaces::ANONYMOUS;
 use protocol::id::ObjectId;
+use protocol::refusal::Refusal;
 
 /// How many arguments a frame has at most.
 pub const MAX_ARGS: usize = 20;
 /// How many bytes its strings and arrays have at most, all together.
 pub const MAX_TEXT: usize = 1024;
+
+/// Whether any frame fits into two rooms.
+pub(crate) fn check_rooms(args: &[Argument<ObjectId>], text: &[u8]) -> Result<(), Refusal>
+    ensures { result ≡ (if roomy args.now text.now then Ok tt else Err BadRoom) }
+{
+    if args.len() >= MAX_ARGS && text.len() >= MAX_TEXT {
+        Ok(())
+    } else {
+        Err(Refusal::BadRoom)
+    }
+}
 
 fn raw_handle(number: u32) -> ObjectId
     ensures { result ≡ raw number }

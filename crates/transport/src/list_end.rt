@@ -2,10 +2,11 @@
 
 ghost use Rattle.std.specs.Prelude.{◌≡◌, [], length, refl};
 ghost use Rattle.transport.specs.Ends.{taking};
-ghost use Rattle.transport.specs.Lists.{list_of, list_means, stop_of, fresh};
+ghost use Rattle.transport.specs.Lists.{list_of, list_means, code_of, code_in, stop_of, fresh};
 ghost use Rattle.transport.specs.Grounds.{list_grounded};
 
-use crate::frame::{Frame, TakeError, check_rooms};
+use crate::frame::{Frame, TakeError};
+use crate::layout::check_rooms;
 use crate::outgoing::Outgoing;
 use crate::ring::Ring;
 use crate::transport::Transport;
@@ -19,21 +20,17 @@ use protocol::id::ObjectId;
 pub struct ListEnd<'a> {
     incoming: &'a mut [Frame],
     waiting: Ring,
-    read_stop: u32,
+    read_stop: Option<u32>,
     outgoing: &'a mut [Frame],
     sent: Ring,
-    write_stop: u32,
+    write_stop: Option<u32>,
 }
 
-// A stop is never "would block".
-fn stop_code(code: u32) -> u32
-    ensures { result ≡ stop_of code }
+// A stop is never 0, and never "would block".
+fn stopped_by(stop: Option<u32>) -> Option<u32>
+    ensures { result ≡ code_in (stop_of (code_of stop)) }
 {
-    if code == TransportFault::WOULD_BLOCK {
-        0
-    } else {
-        code
-    }
+    stop.filter(|code| !matches!(*code, 0 | TransportFault::WOULD_BLOCK))
 }
 
 impl<'a> ListEnd<'a> {
@@ -44,10 +41,10 @@ impl<'a> ListEnd<'a> {
         ListEnd {
             incoming,
             waiting: Ring::EMPTY,
-            read_stop: 0,
+            read_stop: None,
             outgoing,
             sent: Ring::EMPTY,
-            write_stop: 0,
+            write_stop: None,
         }
     }
 }
@@ -77,16 +74,13 @@ impl<'a> Transport for ListEnd<'a> {
     ghost grounded = { list_grounded };
 
     fn first(&self) -> Result<(u32, u16), TransportFault> {
-        if let Some(frame) = self.waiting.get(self.incoming, 0) {
-            return Ok(frame.head());
+        match self.waiting.get(self.incoming, 0) {
+            Some(frame) => Ok(frame.head()),
+            None => Err(TransportFault {
+                layer: 0,
+                code: stopped_by(self.read_stop).unwrap_or(TransportFault::WOULD_BLOCK),
+            }),
         }
-        let stop = stop_code(self.read_stop);
-        let code = if stop == 0 {
-            TransportFault::WOULD_BLOCK
-        } else {
-            stop
-        };
-        Err(TransportFault { layer: 0, code })
     }
 
     fn take(
@@ -101,12 +95,8 @@ impl<'a> Transport for ListEnd<'a> {
     }
 
     fn put(&mut self, message: &Outgoing<'_>) -> Result<(), TransportFault> {
-        let stop = stop_code(self.write_stop);
-        if stop != 0 {
-            return Err(TransportFault {
-                layer: 0,
-                code: stop,
-            });
+        if let Some(code) = stopped_by(self.write_stop) {
+            return Err(TransportFault { layer: 0, code });
         }
         if self.sent.push(self.outgoing, message) {
             Ok(())
@@ -119,9 +109,9 @@ impl<'a> Transport for ListEnd<'a> {
     }
 
     fn flush(&mut self) -> Result<(), TransportFault> {
-        match stop_code(self.write_stop) {
-            0 => Ok(()),
-            code => Err(TransportFault { layer: 0, code }),
+        match stopped_by(self.write_stop) {
+            None => Ok(()),
+            Some(code) => Err(TransportFault { layer: 0, code }),
         }
     }
 }
@@ -151,11 +141,11 @@ impl<'a> World for ListEnd<'a> {
         self.sent.get(self.outgoing, i)
     }
 
-    fn set_read_stop(&mut self, code: u32) {
-        self.read_stop = code;
+    fn set_read_stop(&mut self, stop: Option<u32>) {
+        self.read_stop = stop;
     }
 
-    fn set_write_stop(&mut self, code: u32) {
-        self.write_stop = code;
+    fn set_write_stop(&mut self, stop: Option<u32>) {
+        self.write_stop = stop;
     }
 }

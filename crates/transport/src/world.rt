@@ -6,7 +6,7 @@ ghost use Rattle.std.specs.List.{slice_get};
 ghost use Rattle.transport.specs.Drafts.{outgoing_of};
 ghost use Rattle.transport.specs.Frames.{frame_of};
 ghost use Rattle.transport.specs.Rings.{Queue};
-ghost use Rattle.transport.specs.Lists.{Listed, delivering, collecting, stopping_reads, stopping_writes};
+ghost use Rattle.transport.specs.Lists.{Listed, code_of, delivering, collecting, stopping_reads, stopping_writes};
 ghost use Rattle.transport.specs.Layers.{stacked};
 
 use crate::frame::Frame;
@@ -38,14 +38,14 @@ pub trait World: Transport {
     fn sent_at(&self, i: usize) -> Option<&Frame>
         ensures { option_map (λ f. frame_of f.now) result ≡ slice_get (bottom self.now).outgoing.frames i };
 
-    /// Reading meets this code once no frame waits; 0 is none, and 11 is read as none.
-    fn set_read_stop(&mut self, code: u32)
-        ensures defined { bottom self.new ≡ stopping_reads code (bottom self.old) }
+    /// Reading meets this code once no frame waits; 0 and 11 are read as none.
+    fn set_read_stop(&mut self, stop: Option<u32>)
+        ensures defined { bottom self.new ≡ stopping_reads (code_of stop) (bottom self.old) }
         ensures above { above self.new ≡ above self.old };
 
-    /// Writing meets this code; 0 is none, and 11 is read as none.
-    fn set_write_stop(&mut self, code: u32)
-        ensures defined { bottom self.new ≡ stopping_writes code (bottom self.old) }
+    /// Writing meets this code; 0 and 11 are read as none.
+    fn set_write_stop(&mut self, stop: Option<u32>)
+        ensures defined { bottom self.new ≡ stopping_writes (code_of stop) (bottom self.old) }
         ensures above { above self.new ≡ above self.old };
 
     // A law: what an end means is what lies at the bottom, and above it.

@@ -82,7 +82,7 @@ fn a_stop_comes_through(rt: HostRuntime) -> Result<(), Fail> {
     let Ok(mut end) = BufferedEnd::new(list, 1) else {
         return Err(Fail::new("one frame is allowed"));
     };
-    end.set_write_stop(TransportFault::BROKEN_PIPE);
+    end.set_write_stop(Some(TransportFault::BROKEN_PIPE));
     assert!(rt; send(&mut end, 1).is_ok(), "the buffer has a place");
     assert!(rt; is_fault(send(&mut end, 2), 0, TransportFault::BROKEN_PIPE));
     assert!(rt; is_fault(end.flush(), 0, TransportFault::BROKEN_PIPE));
