@@ -52,10 +52,10 @@ fn copy_span(text: &[u8], span: Span, room: &mut [u8], at: usize) -> usize
     ensures len { result ≡ length (take (1024 - at) (spanned text.now span)) }
     ensures room { room.new ≡ overwritten at (take (1024 - at) (spanned text.now span)) room.old }
 {
-    let start = span.start.min(text.len());
-    let len = span.len.min(text.len() - start).min(MAX_TEXT - at);
-    room[at..at + len].copy_from_slice(&text[start..start + len]);
-    len
+    let behind = &text[span.start.min(text.len())..];
+    let part = &behind[..span.len.min(behind.len()).min(MAX_TEXT - at)];
+    room[at..at + part.len()].copy_from_slice(part);
+    part.len()
 }
 
 // Lays one argument behind the `at` bytes in use: the argument for its new room, and the bytes in use then.

@@ -22,6 +22,7 @@ pub trait Transport {
     /// Takes the first frame, where it fits the signature: its arguments and their texts are written from the start of
     /// the two rooms, which have at least 20 places and 1,024 bytes, and what lies behind stays. Answers how many
     /// arguments there are. Where it fails nothing is changed.
+    // The rooms are two parameters: a layer that passes a struct of both on loses what they hold afterwards.
     fn take(
         &mut self,
         signature: &[ArgumentType],
@@ -41,6 +42,6 @@ pub trait Transport {
         ensures same { means self.new ≡ means self.old }
         ensures answer { result ≡ flushing (means self.old) };
 
-    // A law: what every end owes.
+    // A law: where nothing lies above the bottom no layer is named, and a stop is never "would block".
     ghost grounded: { (s : Self) → Grounded (means s) };
 }
