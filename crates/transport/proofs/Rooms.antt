@@ -1,6 +1,6 @@
 -- Rooms written from their start, a part more each time.
 use Rattle.std.proofs.Common.{◌≡◌, ℕ, ◌+◌, ◌-◌, ◌<◌, min, List, [], ◌∷◌, ◌++◌, length, get_or, take, drop, set, sym, refl, ap, ◌∙◌, inl, inr, append_assoc, arith, length-append, length-drop, length-take, drop-drop}
-use Rattle.std.proofs.lemmas.List.{take_at, drop_at, drop_more, set_at, length_push, take_all, take-take, drop_all, take-append-drop}
+use Rattle.std.proofs.lemmas.List.{take_at, drop_at, drop_more, set_at, length_push, take_all, take-take, drop_all}
 use Rattle.std.proofs.lemmas.Bool.{cases_lt}
 use borrow.Rule.Slice.PartMut.{put_mid}
 use Rattle.transport.specs.Layout.{overwritten, written}

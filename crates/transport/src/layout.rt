@@ -1,6 +1,6 @@
 //! Arguments and their texts, copied from room to room.
 
-ghost use Rattle.std.specs.Prelude.{◌≡◌, ◌+◌, ◌-◌, ◌≤◌, map, length, take, if◌then◌else◌, nat_eq};
+ghost use Rattle.std.specs.Prelude.{◌≡◌, ◌+◌, ◌-◌, ◌≤◌, map, length, take, if◌then◌else◌};
 ghost use Rattle.protocol.specs.declared.refusal.Refusal.TheVariants.{BadRoom};
 ghost use Rattle.transport.specs.Wire.{given, held};
 ghost use Rattle.transport.specs.Frames.{roomy};
@@ -35,13 +35,6 @@ fn raw_handle(number: u32) -> ObjectId
         serial: 0,
         interface: ANONYMOUS,
     }
-}
-
-// The number of a new object: null stands for the child.
-fn number_or(child: u32, number: u32) -> u32
-    ensures { result ≡ (if nat_eq number 0 then child else number) }
-{
-    if number == 0 { child } else { number }
 }
 
 // Copies as much of a span as a text of `MAX_TEXT` bytes has left behind `at`.
@@ -80,7 +73,10 @@ fn lay_one(
             (Argument::Array(Span { start: at, len }), at + len)
         }
         Argument::Object(id) => (Argument::Object(raw_handle(id.number)), at),
-        Argument::NewId(id) => (Argument::NewId(raw_handle(number_or(child, id.number))), at),
+        Argument::NewId(id) => {
+            let number = if id.number == 0 { child } else { id.number };
+            (Argument::NewId(raw_handle(number)), at)
+        }
         Argument::Str(None)
         | Argument::Int(_)
         | Argument::Uint(_)

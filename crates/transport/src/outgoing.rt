@@ -88,12 +88,7 @@ fn left_after(left: usize, text: &[u8], arg: Argument<ObjectId>) -> Option<usize
 fn all_sendable(args: &[Argument<ObjectId>], text: &[u8]) -> bool
     ensures { result ≡ sendable 1024 text.now args.now }
 {
-    let mut left = MAX_TEXT;
-    for arg in args {
-        let Some(rest) = left_after(left, text, *arg) else {
-            return false;
-        };
-        left = rest;
-    }
-    true
+    args.iter()
+        .try_fold(MAX_TEXT, |left, arg| left_after(left, text, *arg))
+        .is_some()
 }
