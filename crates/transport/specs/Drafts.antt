@@ -37,13 +37,13 @@ outgoing_of o = clipped (spoken (draft_of o))
 abbrev pub Whole : Draft → Type 0
 Whole d = (n : ℕ) → clipped (spoken (with_child n d)) ≡ spoken (with_child n d)
 
--- the bytes that a span names, if they lie in the text
-abbrev pub part : List ℕ → Span → Option (List ℕ)
-part text s = cond (nat_le s.start (length text) && nat_le s.len (length text - s.start)) (Some (spanned text s)) None
-
 -- a span that lies in a text and has at most n bytes
 abbrev pub inside : ℕ → List ℕ → Span → Bool
 inside n text s = nat_le s.start (length text) && (nat_le s.len (length text - s.start) && nat_le s.len n)
+
+-- the bytes that such a span names
+abbrev pub part : ℕ → List ℕ → Span → Option (List ℕ)
+part n text s = cond (inside n text s) (Some (spanned text s)) None
 
 -- how many of n bytes an argument leaves, if it may be sent: its bytes lie in the text, and a string has no zero
 abbrev pub left_after : ℕ → List ℕ → Argument ObjectId → Option ℕ

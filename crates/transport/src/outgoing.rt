@@ -55,11 +55,12 @@ impl<'a> Outgoing<'a> {
     }
 }
 
-// The bytes that a span names, if they lie in the text.
-fn part(text: &[u8], span: Span) -> Option<&[u8]>
-    ensures { option_map (λ s. s.now) result ≡ part text.now span }
+// The bytes that a span names, if they lie in the text and are at most `left`.
+fn part(left: usize, text: &[u8], span: Span) -> Option<&[u8]>
+    ensures { option_map (λ s. s.now) result ≡ part left text.now span }
 {
-    text.get(span.start..)?.get(..span.len)
+    let bytes = text.get(span.start..)?.get(..span.len)?;
+    (bytes.len() <= left).then_some(bytes)
 }
 
 // How many of the bytes that are left an argument leaves, if it may be sent.
@@ -68,13 +69,10 @@ fn left_after(left: usize, text: &[u8], arg: Argument<ObjectId>) -> Option<usize
 {
     match arg {
         Argument::Str(Some(span)) => {
-            let bytes = part(text, span)?;
-            if bytes.contains(&0) {
-                return None;
-            }
-            left.checked_sub(bytes.len())
+            let bytes = part(left, text, span)?;
+            (!bytes.contains(&0)).then_some(left - bytes.len())
         }
-        Argument::Array(span) => left.checked_sub(part(text, span)?.len()),
+        Argument::Array(span) => Some(left - part(left, text, span)?.len()),
         Argument::Str(None)
         | Argument::Int(_)
         | Argument::Uint(_)

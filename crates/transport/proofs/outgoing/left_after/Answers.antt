@@ -10,8 +10,5 @@ not_zero : (bs : List ℕ) → all nonzero bs ≡ not (list_any (λ b. b == 0) b
 not_zero [] = refl
 not_zero (b ∷ bs) = elim (b == 0) as (λ z. (not z && all nonzero bs) ≡ not (z || list_any (λ b. b == 0) bs)) [ true ↦ refl | false ↦ not_zero bs ]
 
-pub returns-then-contains : goal.returns-then-contains
-returns-then-contains c = let z = not_zero c.in_ok-bytes-in-Str-Some.bytes.now in let p = c.in_ok-bytes-in-Str-Some.ensures in grind (arith, common_steps)
-
-pub returns-else-contains : goal.returns-else-contains
-returns-else-contains c = let z = not_zero c.in_ok-bytes-in-Str-Some.bytes.now in let p = c.in_ok-bytes-in-Str-Some.ensures in grind (arith, common_steps)
+pub returns-in_ok-bytes-in-Str-Some : goal.returns-in_ok-bytes-in-Str-Some
+returns-in_ok-bytes-in-Str-Some c = let z = not_zero c.in_ok-bytes-in-Str-Some.bytes.now in let p = c.in_ok-bytes-in-Str-Some.ensures in grind (arith, common_steps)
