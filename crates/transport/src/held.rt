@@ -51,8 +51,8 @@ impl Held {
     pub fn push(&mut self, message: &Outgoing<'_>) -> bool
         ensures { (result, held_of self.new) ≡ pushing (outgoing_of message.now) (held_of self.old) }
     {
-        let n = self.capacity;
-        self.ring.push(&mut self.places[0..n], message)
+        // `0..`: a part `..n` of an array field is not lent as `&mut` yet.
+        self.ring.push(&mut self.places[0..self.capacity], message)
     }
 
     /// The frame that came first.

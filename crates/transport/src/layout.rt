@@ -100,6 +100,7 @@ pub(crate) fn lay(
 {
     let args = &args[..args.len().min(MAX_ARGS)];
     let mut end = 0;
+    // By index: after an adapter of `iter_mut` a proof knows nothing of the places.
     for (i, arg) in args.iter().enumerate() {
         (places[i], end) = lay_one(child, *arg, text, room, end);
     }
