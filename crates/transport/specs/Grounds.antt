@@ -13,6 +13,7 @@ use Rattle.transport.specs.Kept.{Kept}
 stops_so : (code : ℕ) → stop_of code ≡ 11 → ⊥
 stops_so code h = grind (arith, nat_tests)
 
+-- the list end: nothing lies above it
 pub list_grounded : (s : ListEnd) → Grounded (list_means s)
 list_grounded s = record { low = λ _. refl; reads = stops_so (code_of s.read_stop); stops = stops_so (code_of s.write_stop) }
 

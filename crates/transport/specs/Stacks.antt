@@ -7,5 +7,6 @@ use Rattle.transport.specs.Ends.{End}
 use Rattle.transport.specs.Lists.{Listed, end_of}
 use Rattle.transport.specs.Layers.{over, stacked}
 
+-- what it means is the stack with what it holds on top
 pub stacked_more : (q : Queue) (e : End) (l : Listed) (qs : List Queue) → e ≡ stacked l qs → over e q ≡ stacked l (qs ++ q ∷ [])
 stacked_more q e l qs h = ap (λ (x : End). over x q) h ∙ sym (fold_push over (end_of l) qs q)
