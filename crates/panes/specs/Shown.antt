@@ -9,6 +9,7 @@ use Rattle.panes.specs.declared.table.Answer.TheVariants.{Opened, Shown, Resized
 abbrev pub pane_text : ℕ → Pane → List ℕ
 pane_text n p = decimal n ++ (codes ": " ++ (decimal p.width ++ (codes " x " ++ decimal p.height)))
 
+-- an answer
 abbrev pub answer_text : Answer → List ℕ
 answer_text (Opened n p) = codes "opened " ++ pane_text n p
 answer_text (Shown n p) = codes "pane " ++ pane_text n p

@@ -18,10 +18,18 @@ use transport::world::World;
 const PLACES: usize = 16;
 
 /// What has arrived so far.
-#[derive(Clone, Copy)]
+#[derive(Clone, Copy, Default)]
 struct Arrived {
     frames: u64,
     sum: u64,
+}
+
+impl Arrived {
+    /// One more frame, and the number that it carries, if it carries one.
+    fn add(&mut self, value: Option<u32>) {
+        self.frames = self.frames.saturating_add(1);
+        self.sum = self.sum.saturating_add(value.map_or(0, u64::from));
+    }
 }
 
 /// Puts a frame that carries one number.
@@ -47,13 +55,10 @@ fn carry<A: World, B: World>(from: &mut A, to: &mut B) {
 }
 
 /// The number that a frame carries, once its arguments are taken into a room.
-fn carried(args: &[Argument<ObjectId>]) -> u32 {
-    if args.is_empty() {
-        return 0;
-    }
-    match args[0] {
-        Argument::Uint(value) => value,
-        _ => 0,
+fn carried(args: &[Argument<ObjectId>]) -> Option<u32> {
+    match args {
+        [Argument::Uint(value), ..] => Some(*value),
+        _ => None,
     }
 }
 
@@ -62,20 +67,14 @@ fn receive<E: Transport>(
     end: &mut E,
     args: &mut [Argument<ObjectId>],
     text: &mut [u8],
-    arrived: Arrived,
-) -> Arrived {
-    let mut all = arrived;
+    arrived: &mut Arrived,
+) {
     for _ in 0..PLACES {
         if end.take(&[ArgumentType::Uint], args, text).is_err() {
-            return all;
+            return;
         }
-        let value = u64::from(carried(args));
-        all = Arrived {
-            frames: all.frames.saturating_add(1),
-            sum: all.sum.saturating_add(value),
-        };
+        arrived.add(carried(args));
     }
-    all
 }
 
 /// Sends the numbers below `count` from one end to the other.
@@ -86,11 +85,11 @@ fn relay<A: World, B: World>(
     text: &mut [u8],
     count: u32,
 ) -> Arrived {
-    let mut arrived = Arrived { frames: 0, sum: 0 };
+    let mut arrived = Arrived::default();
     for value in 0..count {
         if send(near, value).is_err() {
             carry(near, far);
-            arrived = receive(far, args, text, arrived);
+            receive(far, args, text, &mut arrived);
             let _ = send(near, value);
         }
     }
@@ -98,7 +97,7 @@ fn relay<A: World, B: World>(
     for _ in 0..2 {
         let _ = near.flush();
         carry(near, far);
-        arrived = receive(far, args, text, arrived);
+        receive(far, args, text, &mut arrived);
     }
     arrived
 }

@@ -71,7 +71,7 @@ clip-fits n (x ∷ xs) h =
 pub held_fits : (xs : List Arg) → length xs ≤ 20 → length (texts xs) ≤ 1024 → held xs ≡ xs
 held_fits xs h k = ap (clip 1024) (take_all 20 xs h) ∙ clip-fits 1024 xs k
 
-held_few : (xs : List Arg) → length (held xs) ≤ 20
+pub held_few : (xs : List Arg) → length (held xs) ≤ 20
 held_few xs = omega (arith, length-clip 1024 (take 20 xs), length-take 20 xs)
 
 -- what a frame holds, it holds whole

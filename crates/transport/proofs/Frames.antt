@@ -1,7 +1,7 @@
 -- What a frame holds, once it is written, read and checked against a signature.
-use Rattle.std.proofs.Common.{◌≡◌, ℕ, ◌-◌, ◌≤◌, min, true, false, leb, List, [], ◌∷◌, map, length, take, drop, Some, None, Ok, Err, sym, refl, ap, ◌∙◌, arith}
-use Rattle.std.proofs.lemmas.List.{take_at, take-map}
-use Rattle.std.proofs.lemmas.Bool.{leb-true, and_parts, cond-true, cond-false}
+use Rattle.std.proofs.Common.{◌≡◌, ℕ, ◌-◌, ◌≤◌, Bool, true, false, cond, List, [], ◌∷◌, map, length, take, drop, Some, None, Ok, Err, Result, sym, refl, ap, ◌∙◌, arith, length-take}
+use Rattle.std.proofs.lemmas.List.{take_at, take_all, length-map}
+use Rattle.std.proofs.lemmas.Bool.{cond-true, cond-false}
 use Rattle.protocol.specs.declared.argument.Argument.{Argument}
 use Rattle.protocol.specs.declared.argument.Argument.TheVariants.{Int, Uint, Fixed, Str, Object, NewId, Array, Fd}
 use Rattle.protocol.specs.declared.argument.ArgumentType.{ArgumentType}
@@ -14,19 +14,11 @@ use Rattle.transport.specs.declared.frame.TakeError.{TakeError}
 use Rattle.transport.specs.declared.frame.TakeError.TheVariants.{Malformed}
 use Rattle.protocol.specs.declared.refusal.Refusal.{Refusal}
 use Rattle.protocol.specs.declared.refusal.Refusal.TheVariants.{BadRoom}
-use Rattle.transport.proofs.Rooms.{take_twice}
 use Rattle.transport.proofs.Clips.{length-laid, held_held, given_none, laid_back}
 
--- of at most 20 arguments, the first c
-pub front : (c : ℕ) (args : List (Argument ObjectId)) (text : List ℕ) → take 20 (args_of (take c args) text) ≡ args_of (take (min c 20) args) text
-front c args text =
-    let n : min 20 c ≡ min c 20 = omega arith in
-    take-map (arg_of text) 20 (take c args) ∙ ap (λ (l : List (Argument ObjectId)). args_of l text) (take_twice 20 c args ∙ ap (λ (k : ℕ). take k args) n)
-
-pub held_front : (c n : ℕ) (args : List (Argument ObjectId)) (text : List ℕ) → n ≡ min c 20 → held (map (given 0) (args_of (take n args) text)) ≡ held (args_of (take c args) text)
-held_front c n args text e =
-    let k : min n 20 ≡ min c 20 = omega arith in
-    ap held (given_none (args_of (take n args) text)) ∙ ap (clip 1024) (front n args text ∙ ap (λ (m : ℕ). args_of (take m args) text) k ∙ sym (front c args text))
+-- no child is put into the arguments of a frame
+pub held_plain : (args : List (Argument ObjectId)) (text : List ℕ) → held (map (given 0) (args_of args text)) ≡ held (args_of args text)
+held_plain args text = ap held (given_none (args_of args text))
 
 same : (c c' : ℕ) (a a' f : List (Argument ObjectId)) (t t' : List ℕ) (ms : List Arg) → c ≡ c' → a ≡ a' → t ≡ t' → take c' a' ≡ f → args_of f t' ≡ ms → args_of (take c a) t ≡ ms
 same c c' a a' f t t' ms p q r front back = cc
@@ -61,9 +53,14 @@ fits_clip n text [] (a ∷ args) = refl
 fits_clip n text (t ∷ ts) [] = refl
 fits_clip n text (t ∷ ts) (a ∷ args) = let p = kind_same n text a in let q = fits_clip (n - length (bytes_of (arg_of text a))) text ts args in cc
 
-pub fits_front : (c n : ℕ) (text : List ℕ) (ts : List ArgumentType) (args : List (Argument ObjectId)) → n ≡ min c 20 → fits ts (held (args_of (take c args) text)) ≡ fits_raw ts (take n args)
-fits_front c n text ts args e =
-    ap (λ (l : List Arg). fits ts (clip 1024 l)) (front c args text ∙ ap (λ (k : ℕ). args_of (take k args) text) (sym e)) ∙ fits_clip 1024 text ts (take n args)
+pub fits_few : (c : ℕ) (text : List ℕ) (ts : List ArgumentType) (args : List (Argument ObjectId)) → c ≤ 20 → fits ts (held (args_of (take c args) text)) ≡ fits_raw ts (take c args)
+fits_few c text ts args h =
+    let few : length (args_of (take c args) text) ≤ 20 = omega (arith, length-map (take c args) (arg_of text), length-take c args) in
+    ap (λ (l : List Arg). fits ts (clip 1024 l)) (take_all 20 (args_of (take c args) text) few) ∙ fits_clip 1024 text ts (take c args)
+
+roomy_ok : (b : Bool) → ◌≡◌ {A = Result (Unit {0}) Refusal} (Ok tt) (cond b (Ok tt) (Err BadRoom)) → b ≡ true
+roomy_ok true e = refl
+roomy_ok false e = let z : ◌≡◌ {A = ℕ} 0 1 = cc in absurd (omega arith)
 
 abbrev answered : {E : Type 0} → ℕ × List (Argument ObjectId) × List ℕ → Filled ℕ E
 answered t = (Ok t.0, t.1, t.2)
@@ -73,17 +70,11 @@ module _ (args : List (Argument ObjectId)) (text : List ℕ) where
     filled_so : {E : Type 0} → ◌≡◌ {A = Filled ℕ E} (Ok n, args', text') (filled xs args text)
     filled_so {E} = ap (answered {E = E}) laid ∙ ap (λ (l : List Arg). filled l args text) same
 
-    pub read_so : true ≡ roomy args text → ◌≡◌ {A = Filled ℕ Refusal} (Ok n, args', text') (reading xs args text)
-    read_so room = filled_so ∙ sym (cond-true (roomy args text) (filled xs args text) (Err BadRoom, args, text) (sym room))
+    pub read_so : ◌≡◌ {A = Result (Unit {0}) Refusal} (Ok tt) (cond (roomy args text) (Ok tt) (Err BadRoom)) → ◌≡◌ {A = Filled ℕ Refusal} (Ok n, args', text') (reading xs args text)
+    read_so room = filled_so ∙ sym (cond-true (roomy args text) (filled xs args text) (Err BadRoom, args, text) (roomy_ok (roomy args text) room))
 
     pub unpacked_so : (ts : List ArgumentType) → fits ts xs ≡ true → ◌≡◌ {A = Filled ℕ TakeError} (Ok n, args', text') (unpacking ts xs args text)
     unpacked_so ts fit = filled_so ∙ sym (cond-true (fits ts xs) (filled xs args text) (Err Malformed, args, text) fit)
 
   pub malformed_so : (xs : List Arg) (ts : List ArgumentType) → fits ts xs ≡ false → ◌≡◌ {A = Filled ℕ TakeError} (Err Malformed, args, text) (unpacking ts xs args text)
   malformed_so xs ts fit = sym (cond-false (fits ts xs) (filled xs args text) (Err Malformed, args, text) fit)
-
--- rooms that were found to be large enough
-pub roomy_places : (args : List (Argument ObjectId)) (text : List ℕ) → true ≡ roomy args text → (20 ≤ length args) × (1024 ≤ length text)
-roomy_places args text e =
-    let p = and_parts (leb 20 (length args)) (leb 1024 (length text)) (sym e) in
-    (leb-true 20 (length args) p.0, leb-true 1024 (length text) p.1)

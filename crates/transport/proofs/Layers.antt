@@ -8,7 +8,7 @@ use Rattle.protocol.specs.declared.error.TransportFault.{TransportFault}
 use Rattle.transport.specs.Wire.{Message}
 use Rattle.transport.specs.Rings.{Queue, pushing}
 use Rattle.transport.specs.Ends.{End, fault, sending, put_fault, putting, flushing, Grounded}
-use Rattle.transport.specs.Layers.{queue, total, over, Layers, passed_or, pass_down, passing, raised, raised_in, held_or, hold_again, put_through, and_then, left_behind, flushed_below, flush_through}
+use Rattle.transport.specs.Layers.{queue, total, over, Layers, passed_or, pass_down, passing, raised, raised_in, held_or, hold_again, put_through, and_then, left_behind, flush_through}
 
 abbrev Put : Type 0
 Put = Result (Unit {0}) TransportFault × End
@@ -49,6 +49,7 @@ layers r e q = (r, e, q)
 pub record Passed (e : End) (q : Queue) (t : Layers) : Type 0 where
   pub same : over t.1 t.2 ≡ over e q
   pub kept : total t.2 ≡ total q
+  pub ground : Grounded e → Grounded t.1
   pub ways : MatchResult t.0 (λ _. t.2.frames ≡ []) (λ f. (t.1.room ≡ 0) × (f ≡ put_fault t.1) × (0 < length t.2.frames))
 
 end_is : (e e' : End) → e.waiting ≡ e'.waiting → e.read_stop ≡ e'.read_stop → e.sent ≡ e'.sent → e.room ≡ e'.room → e.write_stop ≡ e'.write_stop → e.hold ≡ e'.hold → e.height ≡ e'.height
@@ -62,11 +63,11 @@ over_passed e m ms n h =
 
 pass_step : (e : End) (m : Message) (ms : List Message) (n : ℕ) (b : Bool) → eqb e.room 0 ≡ b → Passed (sending m e) (queue ms (n + 1)) (pass_down (sending m e) ms (n + 1))
     → Passed e (queue (m ∷ ms) n) (passed_or (cond b (Err (put_fault e), e) (Ok tt, sending m e)) (queue (m ∷ ms) n) (λ e'. pass_down e' ms (n + 1)))
-pass_step e m ms n true h ih = record { same = refl; kept = refl; ways = (eqb-true e.room 0 h, refl, omega arith) }
-pass_step e m ms n false h ih = let k = eqb-false e.room 0 h in record { same = ih.same ∙ over_passed e m ms n (grind arith); kept = ih.kept ∙ omega arith; ways = ih.ways }
+pass_step e m ms n true h ih = record { same = refl; kept = refl; ground = λ g. g; ways = (eqb-true e.room 0 h, refl, omega arith) }
+pass_step e m ms n false h ih = let k = eqb-false e.room 0 h in record { same = ih.same ∙ over_passed e m ms n (grind arith); kept = ih.kept ∙ omega arith; ground = λ g. ih.ground (record { low = g.low; reads = g.reads; stops = g.stops }); ways = ih.ways }
 
 pub pass_facts : (e : End) (ms : List Message) (n : ℕ) → Passed e (queue ms n) (pass_down e ms n)
-pass_facts e [] n = record { same = refl; kept = refl; ways = refl }
+pass_facts e [] n = record { same = refl; kept = refl; ground = λ g. g; ways = refl }
 pass_facts e (m ∷ ms) n = pass_step e m ms n (eqb e.room 0) refl (pass_facts (sending m e) ms (n + 1))
 
 -- a push that found a place, and one that did not
@@ -130,10 +131,6 @@ raised_same e q g h =
           ap raised p ∙ cond-false (eqb e.write_stop 11) (fault 1 7) (fault 0 e.write_stop) n ∙ sym r
     ]
 
-pub pass_total : (e e₀ : End) (q q₀ : Queue) → passing e₀ q₀ ≡ passing e q → total q₀ ≡ total q
-pass_total e e₀ q q₀ h =
-    sym (pass_facts e₀ q₀.frames q₀.free).kept ∙ ap (λ (t : Layers). total t.2) h ∙ (pass_facts e q.frames q.free).kept
-
 put_full : (m : Message) (e e' : End) (q q' q'' : Queue) (f : TransportFault) → ◌≡◌ {A = Layers} (Err f, e', q') (passing e q) → (false, q'') ≡ pushing m q' → Grounded e'
     → ◌≡◌ {A = Put} (Err (raised f), over e' q'') (putting m (over e q))
 put_full m e e' q q' q'' f h k g =
@@ -145,24 +142,6 @@ put_full m e e' q q' q'' f h k g =
     let c : putting m (over e' q') ≡ (Err (put_fault (over e' q')), over e' q') = cond-true (eqb (e'.room + q'.free) 0) (Err (put_fault (over e' q')), over e' q') (Ok tt, sending m (over e' q')) room in
     ap (λ (x : TransportFault). refused x (over e' q'')) (ap raised w.1 ∙ raised_same e' q' g w.2)
     ∙ ap (λ (x : Queue). refused (put_fault (over e' q')) (over e' x)) n.1 ∙ sym c ∙ ap (putting m) t.same
-
--- the layer above an end is grounded where that is
-over_grounded : (e : End) (q : Queue) → Grounded e → 0 < total q → Grounded (over e q)
-over_grounded e q g h = record { low = λ z. absurd (omega arith); reads = g.reads; stops = g.stops }
-
-full_grounded : (e e' : End) (q q' : Queue) (f : TransportFault) → ◌≡◌ {A = Layers} (Err f, e', q') (passing e q) → Grounded e' → Grounded (over e q)
-full_grounded e e' q q' f h g =
-    let t = subst (λ (t : Layers). Passed e q t) (sym h) (pass_facts e q.frames q.free) in
-    let w = t.ways in
-    subst (λ (x : End). Grounded x) t.same (over_grounded e' q' g (omega (arith, w.2)))
-
-pub flush_grounded : (r : Result (Unit {0}) TransportFault) (e e' : End) (q q' : Queue) → ◌≡◌ {A = Layers} (r, e', q') (passing e q) → Grounded e' → 0 < total q → Grounded (over e q)
-flush_grounded r e e' q q' h g n =
-    let t = subst (λ (t : Layers). Passed e q t) (sym h) (pass_facts e q.frames q.free) in
-    let hold : e'.hold + (length q'.frames + q'.free) ≡ e.hold + (length q.frames + q.free) = ap (λ (x : End). x.hold) t.same in
-    let stop : e'.write_stop ≡ e.write_stop = ap (λ (x : End). x.write_stop) t.same in
-    let read : e'.read_stop ≡ e.read_stop = ap (λ (x : End). x.read_stop) t.same in
-    record { low = λ z. absurd (omega arith); reads = λ z. g.reads (read ∙ z); stops = λ z. g.stops (stop ∙ z) }
 
 flush_same : (r : Result (Unit {0}) TransportFault) (e e' : End) (q q' : Queue) → ◌≡◌ {A = Layers} (r, e', q') (passing e q) → over e' q' ≡ over e q
 flush_same r e e' q q' h = (subst (λ (t : Layers). Passed e q t) (sym h) (pass_facts e q.frames q.free)).same
@@ -203,53 +182,37 @@ flush_answer r e e' q q' h =
     let t = subst (λ (t : Layers). Passed e q t) (sym h) (pass_facts e q.frames q.free) in
     answer_over r e' q' t.ways ∙ ap flushing t.same
 
--- the three ways out of a put
-pub held_at_once : (m : Message) (e : End) (q q' : Queue) → (true, q') ≡ pushing m q → (Ok tt, e, q') ≡ put_through m e q
-held_at_once m e q q' h = ap (λ (t : Bool × Queue). held_or t e (λ x. hold_again m (passing e x))) h
-
-module _ (m : Message) (e e' : End) (q q₁ q₂ q₃ : Queue) (r : Result (Unit {0}) TransportFault) (full : (false, q₁) ≡ pushing m q) (passed : ◌≡◌ {A = Layers} (r, e', q₂) (passing e q₁)) where
-  still : q₁ ≡ q
-  still = (found_none (eqb q.free 0) q q₁ (queue (q.frames ++ m ∷ []) (q.free - 1)) full).1
-
-  passed_on : ◌≡◌ {A = Layers} (r, e', q₂) (passing e q)
-  passed_on = passed ∙ ap (passing e) still
-
-  through : held_or (pushing m q₂) e' (λ x. (raised_in r, e', x)) ≡ put_through m e q
-  through = ap (hold_again m) passed ∙ ap (λ (t : Bool × Queue). held_or t e (λ x. hold_again m (passing e x))) full
-
-  pub held_after : (true, q₃) ≡ pushing m q₂ → (Ok tt, e', q₃) ≡ put_through m e q
-  held_after h = ap (λ (t : Bool × Queue). held_or t e' (λ x. (raised_in r, e', x))) h ∙ through
-
-  not_held : (false, q₃) ≡ pushing m q₂ → ◌≡◌ {A = Layers} (raised_in r, e', q₃) (put_through m e q)
-  not_held h = ap (λ (t : Bool × Queue). held_or t e' (λ x. (raised_in r, e', x))) h ∙ through
-
-  pub put_after : (true, q₃) ≡ pushing m q₂ → ◌≡◌ {A = Put} (Ok tt, over e' q₃) (putting m (over e q))
-  put_after h = put_held m e' q₂ q₃ h ∙ ap (putting m) (flush_same r e e' q q₂ passed_on)
-
-module _ (m : Message) (e e' : End) (q q₁ q₂ q₃ : Queue) (f f' : TransportFault) (full : (false, q₁) ≡ pushing m q) (passed : ◌≡◌ {A = Layers} (Err f, e', q₂) (passing e q₁)) (again : (false, q₃) ≡ pushing m q₂) (ground : Grounded e') (up : f' ≡ raised f) where
-  pub refused_layers : ◌≡◌ {A = Layers} (Err f', e', q₃) (put_through m e q)
-  refused_layers = ap (λ (x : TransportFault). layers (Err x) e' q₃) up ∙ not_held m e e' q q₁ q₂ q₃ (Err f) full passed again
-
-  pub refused_put : ◌≡◌ {A = Put} (Err f', over e' q₃) (putting m (over e q))
-  refused_put = ap (λ (x : TransportFault). refused x (over e' q₃)) up ∙ put_full m e e' q q₂ q₃ f (passed_on m e e' q q₁ q₂ q₃ (Err f) full passed) again ground
-
-  pub refused_grounded : Grounded (over e q)
-  refused_grounded = full_grounded e e' q q₂ f (passed_on m e e' q q₁ q₂ q₃ (Err f) full passed) ground
-
 -- frames that were all passed down leave a place
-pub never_full : (m : Message) (e e' : End) (q q' q'' : Queue) → ◌≡◌ {A = Layers} (Ok tt, e', q') (passing e q) → 0 < total q → (false, q'') ≡ pushing m q' → ⊥
+never_full : (m : Message) (e e' : End) (q q' q'' : Queue) → ◌≡◌ {A = Layers} (Ok tt, e', q') (passing e q) → 0 < total q → (false, q'') ≡ pushing m q' → ⊥
 never_full m e e' q q' q'' h k full =
     let t = subst (λ (t : Layers). Passed e q t) (sym h) (pass_facts e q.frames q.free) in
     let n = found_none (eqb q'.free 0) q' q'' (queue (q'.frames ++ m ∷ []) (q'.free - 1)) full in
     omega (arith, eqb-true q'.free 0 n.0, ap length t.ways, t.kept)
 
--- a flush: what was passed down, and what the end below answered
-module _ (x r : Result (Unit {0}) TransportFault) (e e' e'' : End) (q q' : Queue) (passed : ◌≡◌ {A = Layers} (r, e', q') (passing e q)) (kept : e'' ≡ e') (below : x ≡ flushing e') where
-  pub flush_layers : ◌≡◌ {A = Layers} (and_then x (left_behind r), e'', q') (flush_through e q)
-  flush_layers = ap (λ (y : Result (Unit {0}) TransportFault). layers (and_then y (left_behind r)) e'' q') below ∙ ap (λ (y : End). layers (and_then (flushing e') (left_behind r)) y q') kept ∙ ap flushed_below passed
+-- what a call through a layer answers, and the end that is left
+abbrev pub seen : Layers → Put
+seen t = (t.0, over t.1 t.2)
 
-  pub flush_kept : over e'' q' ≡ over e q
-  flush_kept = ap (λ (y : End). over y q') kept ∙ flush_same r e e' q q' passed
+-- a put through a layer is a put of the end that the layer makes of the one below
+module _ (m : Message) (e : End) (q : Queue) (ground : Grounded e) (some : 0 < total q) where
+  second_try : (p : Bool × Queue) (r : Result (Unit {0}) TransportFault) (e' : End) (q' : Queue) → ◌≡◌ {A = Layers} (r, e', q') (passing e q) → p ≡ pushing m q'
+      → seen (held_or p e' (λ x. (raised_in r, e', x))) ≡ putting m (over e q)
+  second_try (true, q'') r e' q' h k = put_held m e' q' q'' k ∙ ap (putting m) (flush_same r e e' q q' h)
+  second_try (false, q'') (Ok tt) e' q' h k = absurd (never_full m e e' q q' q'' h some k)
+  second_try (false, q'') (Err f) e' q' h k = put_full m e e' q q' q'' f h k ((subst (λ (t : Layers). Passed e q t) (sym h) (pass_facts e q.frames q.free)).ground ground)
 
-  pub flush_answered : and_then x (left_behind r) ≡ flushing (over e q)
-  flush_answered = ap (λ (y : Result (Unit {0}) TransportFault). and_then y (left_behind r)) below ∙ flush_answer r e e' q q' passed
+  first_try : (p : Bool × Queue) → p ≡ pushing m q → seen (held_or p e (λ x. hold_again m (passing e x))) ≡ putting m (over e q)
+  first_try (true, q') h = put_held m e q q' h
+  first_try (false, q') h =
+      let same = (found_none (eqb q.free 0) q q' (queue (q.frames ++ m ∷ []) (q.free - 1)) h).1 in
+      let t : Layers = passing e q in
+      ap (λ (x : Queue). seen (hold_again m (passing e x))) same ∙ second_try (pushing m t.2) t.0 t.1 t.2 refl refl
+
+  pub put_over : (t : Layers) → t ≡ put_through m e q → seen t ≡ putting m (over e q)
+  put_over t h = ap seen h ∙ first_try (pushing m q) refl
+
+-- a flush through a layer is a flush of that end
+pub flush_over : (t : Layers) (e : End) (q : Queue) → t ≡ flush_through e q → (over t.1 t.2 ≡ over e q) × (t.0 ≡ flushing (over e q))
+flush_over t e q h =
+    let p : Layers = passing e q in
+    (ap (λ (x : Layers). over x.1 x.2) h ∙ flush_same p.0 e p.1 q p.2 refl, ap (λ (x : Layers). x.0) h ∙ flush_answer p.0 e p.1 q p.2 refl)

@@ -1,6 +1,6 @@
 -- The loop that lays arguments, one after another.
-use Rattle.std.proofs.Common.{◌≡◌, ℕ, ◌+◌, ◌-◌, ◌<◌, ◌≤◌, min, List, [], ◌∷◌, ◌++◌, map, length, get_or, take, set, sym, ap, ◌∙◌, arith, length-append, length-take}
-use Rattle.std.proofs.lemmas.List.{take_more, length-take-le, get_or-map, length-map}
+use Rattle.std.proofs.Common.{◌≡◌, ℕ, ◌+◌, ◌-◌, ◌<◌, ◌≤◌, min, List, [], ◌∷◌, ◌++◌, map, length, get_or, take, set, sym, ap, ◌∙◌, arith, length-append}
+use Rattle.std.proofs.lemmas.List.{take_more, take_all, length-take-le, get_or-map, length-map, take-map}
 use Rattle.protocol.specs.declared.argument.Argument.{Argument}
 use Rattle.protocol.specs.declared.id.ObjectId.{ObjectId}
 use Rattle.transport.specs.Wire.{Arg, bytes_of, texts, cut, clip, held, given}
@@ -49,40 +49,46 @@ module _ (xs : List Arg) (places₀ : List (Argument ObjectId)) (room₀ : List 
       ap (λ (s : (Argument ObjectId × ℕ) × List ℕ). s.1) step ∙ joins (texts m) room₀ room (bytes_of y) (texts (m ++ y ∷ [])) end e r (texts-push m y) in
       together _ _ _ _ _ _ first second third ∙ ap (λ (l : List Arg). laying l places₀ room₀) (sym more)
 
-  lay_all : (n i end : ℕ) (places : List (Argument ObjectId)) (room : List ℕ) → n ≡ min (length xs) 20 → n ≤ i → i ≤ n → (end, places, room) ≡ laying (so_far xs i) places₀ room₀
-      → (n, places, room) ≡ lay_into (held xs) places₀ room₀
-  lay_all n i end places room c h k inv =
-      let j : i ≡ min (length xs) 20 = omega arith in
-      let all : so_far xs i ≡ held xs = ap (λ (t : ℕ). so_far xs t) j ∙ ap (clip 1024) (take_min 20 xs) in
-      let count : n ≡ length (held xs) = omega (arith, length-clip 1024 (take 20 xs), length-take 20 xs) in
+  lay_all : (i end : ℕ) (places : List (Argument ObjectId)) (room : List ℕ) → i ≡ length xs → (end, places, room) ≡ laying (so_far xs i) places₀ room₀
+      → (length xs, places, room) ≡ lay_into (clip 1024 xs) places₀ room₀
+  lay_all i end places room e inv =
+      let all : so_far xs i ≡ clip 1024 xs = ap (clip 1024) (take_all i xs (omega arith)) in
+      let count : length xs ≡ length (clip 1024 xs) = sym (length-clip 1024 xs) in
       let p : places ≡ written (laid 0 (so_far xs i)) places₀ = ap (λ (t : ℕ × List (Argument ObjectId) × List ℕ). t.1) inv in
       let r : room ≡ written (texts (so_far xs i)) room₀ = ap (λ (t : ℕ × List (Argument ObjectId) × List ℕ). t.2) inv in
       together _ _ _ _ _ _ count (p ∙ ap (λ (l : List Arg). written (laid 0 l) places₀) all) (r ∙ ap (λ (l : List Arg). written (texts l) room₀) all)
 
+-- arguments as values, with the child put in
+abbrev pub values : List (Argument ObjectId) → List ℕ → ℕ → List Arg
+values args text child = map (given child) (args_of args text)
+
+length-values : (args : List (Argument ObjectId)) (text : List ℕ) (child : ℕ) → length (values args text child) ≡ length args
+length-values args text child = length-map (args_of args text) (given child) ∙ length-map args (arg_of text)
+
 -- the same of arguments and their text
 module _ (args : List (Argument ObjectId)) (text : List ℕ) (child : ℕ) (places₀ : List (Argument ObjectId)) (room₀ : List ℕ) where
-  abbrev values : List Arg
-  values = map (given child) (args_of args text)
-
-  length-values : length values ≡ length args
-  length-values = length-map (args_of args text) (given child) ∙ length-map args (arg_of text)
-
-  value_at : (i : ℕ) (d : Argument ObjectId) → i < length args → get_or values i (given child (arg_of text (get_or args i d))) ≡ given child (arg_of text (get_or args i d))
+  value_at : (i : ℕ) (d : Argument ObjectId) → i < length args → get_or (values args text child) i (given child (arg_of text (get_or args i d))) ≡ given child (arg_of text (get_or args i d))
   value_at i d h =
       let k : i < length (args_of args text) = omega (arith, length-map args (arg_of text)) in
       get_or-map (given child) (args_of args text) i (arg_of text d) (given child (arg_of text (get_or args i d))) k ∙ ap (given child) (get_or-map (arg_of text) args i d (arg_of text d) h)
 
-  pub args_more : (i n end next : ℕ) (d : Argument ObjectId) (places : List (Argument ObjectId)) (room room' : List ℕ) (a : Argument ObjectId) → n ≡ min (length args) 20 → i < n → 20 ≤ length places₀
-      → (end, places, room) ≡ laying (so_far values i) places₀ room₀ → ((a, next), room') ≡ lay_one end (given child (arg_of text (get_or args i d))) room
-      → (next, set places i a, room') ≡ laying (so_far values (i + 1)) places₀ room₀
-  args_more i n end next d places room room' a e h k inv step =
-      lay_more values places₀ room₀ i end next places room room' _ a (omega (arith, length-values)) (omega arith) (value_at i d (omega arith)) inv step
+  pub args_more : (i end next : ℕ) (d : Argument ObjectId) (places : List (Argument ObjectId)) (room room' : List ℕ) (a : Argument ObjectId) → i < length args → i < length places₀
+      → (end, places, room) ≡ laying (so_far (values args text child) i) places₀ room₀ → ((a, next), room') ≡ lay_one end (given child (arg_of text (get_or args i d))) room
+      → (next, set places i a, room') ≡ laying (so_far (values args text child) (i + 1)) places₀ room₀
+  args_more i end next d places room room' a h k inv step =
+      lay_more (values args text child) places₀ room₀ i end next places room room' _ a (omega (arith, length-values args text child)) k (value_at i d h) inv step
 
-  pub args_all : (n i end : ℕ) (places : List (Argument ObjectId)) (room : List ℕ) → n ≡ min (length args) 20 → n ≤ i → i ≤ n → (end, places, room) ≡ laying (so_far values i) places₀ room₀
-      → (n, places, room) ≡ lay_into (held values) places₀ room₀
-  args_all n i end places room c h k inv = lay_all values places₀ room₀ n i end places room (omega (arith, length-values)) h k inv
+  pub args_all : (n i end : ℕ) (places : List (Argument ObjectId)) (room : List ℕ) → n ≡ min (length args) 20 → i ≡ length (take n args)
+      → (end, places, room) ≡ laying (so_far (values (take n args) text child) i) places₀ room₀ → (length (take n args), places, room) ≡ lay_into (held (values args text child)) places₀ room₀
+  args_all n i end places room c h inv =
+      let front : values (take n args) text child ≡ take 20 (values args text child) =
+      ap (λ (l : List (Argument ObjectId)). values l text child) (ap (λ (k : ℕ). take k args) c ∙ take_min 20 args)
+      ∙ sym (take-map (given child) 20 (args_of args text) ∙ ap (map (given child)) (take-map (arg_of text) 20 args)) in
+      let l = length-values (take n args) text child in
+      ap (λ (k : ℕ). (k, places, room)) (sym l) ∙ lay_all (values (take n args) text child) places₀ room₀ i end places room (h ∙ sym l) inv
+      ∙ ap (λ (xs : List Arg). lay_into (clip 1024 xs) places₀ room₀) front
 
-  pub end_fits : (i end : ℕ) (places : List (Argument ObjectId)) (room : List ℕ) → (end, places, room) ≡ laying (so_far values i) places₀ room₀ → end ≤ 1024
+  pub end_fits : (i end : ℕ) (places : List (Argument ObjectId)) (room : List ℕ) → (end, places, room) ≡ laying (so_far (values args text child) i) places₀ room₀ → end ≤ 1024
   end_fits i end places room inv =
-      let e : end ≡ length (texts (so_far values i)) = ap (λ (t : ℕ × List (Argument ObjectId) × List ℕ). t.0) inv in
-      omega (arith, size-clip 1024 (take i values))
+      let e : end ≡ length (texts (so_far (values args text child) i)) = ap (λ (t : ℕ × List (Argument ObjectId) × List ℕ). t.0) inv in
+      omega (arith, size-clip 1024 (take i (values args text child)))

@@ -7,4 +7,3 @@ pub mod Queues
 pub mod Rings
 pub mod Rooms
 pub mod Sending
-pub mod Stacks

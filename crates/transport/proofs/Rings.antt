@@ -22,9 +22,6 @@ module _ (room : List Frame) (h c : ℕ) where
   pub length-ring : length (ring_of ring room) ≡ min c (length room)
   length-ring = length-map (take c (rotated h room)) frame_of ∙ length-take c (rotated h room) ∙ ap (min c) (length-rotated h room)
 
-  pub ring_total : length (queue_of ring room).frames + (queue_of ring room).free ≡ length room
-  ring_total = omega (arith, length-ring)
-
   pub ring-push : (f : Frame) (m : Message) → c < length room → frame_of f ≡ m
       → ◌≡◌ {A = Bool × Queue} (true, queue_of (record { head = h; count = c + 1 }) (set room (place (length room) h c) f)) (pushing m (queue_of ring room))
   ring-push f m l e =

@@ -1,6 +1,6 @@
 -- Rooms written from their start, a part more each time.
 use Rattle.std.proofs.Common.{◌≡◌, ℕ, ◌+◌, ◌-◌, ◌<◌, min, List, [], ◌∷◌, ◌++◌, length, get_or, take, drop, set, sym, refl, ap, ◌∙◌, inl, inr, append_assoc, arith, length-append, length-drop, length-take, drop-drop}
-use Rattle.std.proofs.lemmas.List.{take_at, drop_at, drop_more, set_at, length_push, take_all, take-take, drop_all, take-append-drop}
+use Rattle.std.proofs.lemmas.List.{take_at, drop_at, drop_more, set_at, length_push, take_all, take-take, drop_all}
 use Rattle.std.proofs.lemmas.Bool.{cases_lt}
 use borrow.Rule.Slice.PartMut.{put_mid}
 use Rattle.transport.specs.Layout.{overwritten, written}
@@ -45,28 +45,17 @@ module _ {X : Type 0} where
     | inr h ↦ drop_all (min i (length xs)) xs (omega arith) ∙ sym (drop_all i xs h)
   ]
 
-  pub overwritten_none : (n : ℕ) (room : List X) → overwritten n [] room ≡ room
-  overwritten_none n room = let e : n + 0 ≡ n = omega arith in ap (λ (k : ℕ). take n room ++ drop k room) e ∙ take-append-drop n room
+  -- at most `left` elements of a part of a text, as far as there are any
+  pub part_wanted : (text : List X) (from size left start n : ℕ) → start ≡ min from (length text) → n ≡ min (min size (length text - start)) left
+      → take n (take (length text - start) (drop start text)) ≡ take left (take size (drop from text))
+  part_wanted text from size left start n s l =
+      let m = length-drop start text in
+      ap (take n) (take_all (length text - start) (drop start text) (omega arith)) ∙ take_same n (min left size) (drop start text) (omega arith)
+      ∙ ap (take (min left size)) (ap (λ (k : ℕ). drop k text) s ∙ drop_same from text) ∙ sym (take_twice left size (drop from text))
 
-  -- at most `left` elements of a part of a text, as far as there are any, copied to the place `at` of a room
-  module _ (text room part : List X) (from size left at start len : ℕ) (s : start ≡ min from (length text)) (l : len ≡ min (min size (length text - start)) left) (p : part ≡ take ((start + len) - start) (drop start text)) where
-    abbrev wanted : List X
-    wanted = take left (take size (drop from text))
-
-    part_wanted : part ≡ wanted
-    part_wanted =
-        let d : drop start text ≡ drop from text = ap (λ (k : ℕ). drop k text) s ∙ drop_same from text in
-        let n : (start + len) - start ≡ len = omega arith in
-        let m = length-drop start text in
-        let e : take ((start + len) - start) (drop start text) ≡ take (min left size) (drop start text) = take_same ((start + len) - start) (min left size) (drop start text) (omega arith) in
-        p ∙ e ∙ ap (take (min left size)) d ∙ sym (take_twice left size (drop from text))
-
-    pub length-wanted : len ≡ length wanted
-    length-wanted = omega (arith, ap length part_wanted, ap length p, length-take ((start + len) - start) (drop start text), length-drop start text)
-
-    pub copied : put_mid at ((at + len) - at) room part ≡ overwritten at wanted room
-    copied =
-        let n : (at + len) - at ≡ length wanted = omega (arith, length-wanted) in
-        let w = part_wanted in
-        let d = drop-drop ((at + len) - at) at room in
-        cc
+  -- copied to the place `at` of a room
+  pub copied : (at : ℕ) (room part p q : List X) → part ≡ p → p ≡ q → put_mid at ((at + length p) - at) room part ≡ overwritten at q room
+  copied at room part p q c e =
+      let n : (at + length p) - at ≡ length q = omega (arith, ap length e) in
+      let d = drop-drop ((at + length p) - at) at room in
+      cc

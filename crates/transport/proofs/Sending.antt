@@ -1,6 +1,15 @@
 -- What may be sent is not cut.
-use Rattle.std.proofs.Common.{◌≡◌, ℕ, ◌+◌, ◌-◌, ◌<◌, ◌≤◌, Bool, true, false, cond, ◌&&◌, leb, List, [], ◌∷◌, map, length, get_or, drop, Some, None, Option, sym, refl, ap, ◌∙◌, arith, length-append, length-take}
-use Rattle.std.proofs.lemmas.List.{length-map, at_drop_more, at_drop_all}
+use Rattle.std.proofs.Common.{◌≡◌, ℕ, ◌+◌, ◌-◌, ◌≤◌, Bool, true, false, cond, ◌&&◌, leb, List, [], ◌∷◌, ◌++◌, map, length, get_or, drop, Some, None, Option, sym, refl, ap, ◌∙◌, subst, append-nil, arith, length-append, length-take}
+use Rattle.std.proofs.lemmas.List.{length-map, at_drop_more, take-append-drop}
+use Rattle.std.proofs.lemmas.Iterator.{YieldsList}
+use Rattle.std.proofs.lemmas.Iterator.Consumers.{YieldsList-so_far, YieldsList-turn, YieldsList-end}
+use Rattle.std.specs.ControlFlow.{continue_value}
+use Rattle.std.specs.Iterator.{TryFoldTurn, TryFoldsItems, Yields}
+use Rattle.std.specs.List.{FoldsTo}
+use Rattle.std.specs.Option.{is_some, MatchOption}
+use Rattle.std.specs.declared.ops.ControlFlow.{ControlFlow}
+use denote.Param.Members.{Mut, Called}
+use denote.Ref.{Bor}
 use Rattle.std.proofs.lemmas.Bool.{and_parts, leb-true, false≢true}
 use Rattle.protocol.specs.Pairwise.{all}
 use Rattle.protocol.specs.Rules.{nonzero}
@@ -54,16 +63,34 @@ accepted_whole s o c args text h n =
     let short = sendable-size 1024 text args p.1 in
     ap (message s o) (held_fits (map (given n) xs) (omega (arith, length-map xs (given n), length-map args (arg_of text))) (omega (arith, ap length (texts_given n xs))))
 
--- one step of the loop that checks arguments
-module _ (text : List ℕ) (args : List (Argument ObjectId)) (i n : ℕ) (d : Argument ObjectId) (h : i < length args) where
-  sendable_step : sendable n text (drop i args) ≡ when_left (left_after n text (get_or args i d)) (λ m. sendable m text (drop (i + 1) args))
-  sendable_step = at_drop_more (sendable n text) args i d h
+-- arguments checked one after another, by a closure that does what `left_after` does
+module _ (E : Type 0) {F : Type 0} (g : Mut F (ℕ × (Bor (Argument ObjectId) × Unit {0})) (Option ℕ)) (f : F) (text : List ℕ)
+    (calls : (n : ℕ) (x : Bor (Argument ObjectId)) (v : Option ℕ) (q : F) → Called g f (n, (x, tt)) v q → (q ≡ f) × (v ≡ left_after n text x.now)) where
+  abbrev Turn : F × ℕ → Bor (Argument ObjectId) → F × ℕ → Type 0
+  Turn = TryFoldTurn g (λ (v : Option ℕ) (r : ControlFlow E ℕ). v ≡ continue_value r)
 
-  pub sendable_no : None ≡ left_after n text (get_or args i d) → sendable n text (drop i args) ≡ false
-  sendable_no e = sendable_step ∙ ap (λ (o : Option ℕ). when_left o (λ m. sendable m text (drop (i + 1) args))) (sym e)
+  gone_on : (xs : List (Bor (Argument ObjectId))) (ys : List (Argument ObjectId)) (n a : ℕ) (q : F) → FoldsTo Turn (f, n) xs (q, a)
+      → (q ≡ f) × (sendable n text (map (λ x. x.now) xs ++ ys) ≡ sendable a text ys)
+  gone_on [] ys n a q h = (sym (ap (λ (p : F × ℕ). p.0) h), ap (λ (p : F × ℕ). sendable p.1 text ys) h)
+  gone_on (x ∷ xs) ys n a q h =
+      let k = calls n x h.1.0 h.0.0 h.1.1 in
+      let rest = gone_on xs ys h.0.1 a q (subst (λ (p : F). FoldsTo Turn (p, h.0.1) xs (q, a)) k.0 h.2) in
+      (rest.0, ap (λ (o : Option ℕ). when_left o (λ m. sendable m text (map (λ x. x.now) xs ++ ys))) (sym k.1 ∙ h.1.2) ∙ rest.1)
 
-  pub sendable_more : (m : ℕ) → Some m ≡ left_after n text (get_or args i d) → sendable n text (drop i args) ≡ sendable m text (drop (i + 1) args)
-  sendable_more m e = sendable_step ∙ ap (λ (o : Option ℕ). when_left o (λ m. sendable m text (drop (i + 1) args))) (sym e)
+  module _ {S : Type 0} {steps : S → Option (Bor (Argument ObjectId)) → S → Type 0} {s : S} {args : List (Argument ObjectId)} (road : YieldsList steps (λ x. x.now) s args) where
+    ended : (o : Option (Bor (Argument ObjectId))) (xs : List (Bor (Argument ObjectId))) (q : F) (n a : ℕ) (t u : S) (r : Option ℕ) → Yields steps s xs t → steps t o u → FoldsTo Turn (f, n) xs (q, a)
+        → MatchOption o (r ≡ Some a) (λ x. (v : Option ℕ) × (h : F) × (e : E) × Called g q (a, (x, tt)) v h × (v ≡ None) × (r ≡ None)) → is_some r ≡ sendable n text args
+    ended None xs q n a t u r y l h e =
+        ap is_some e ∙ sym (ap (sendable n text) (sym (YieldsList-end road xs t y None u refl l).0 ∙ sym (append-nil (map (λ x. x.now) xs))) ∙ (gone_on xs [] n a q h).1)
+    ended (Some x) xs q n a t u r y l h e =
+        let k : ℕ = length xs in
+        let here = YieldsList-turn road xs t y (Some x) u x refl l in
+        let before = gone_on xs (drop k args) n a q h in
+        let last = calls a x e.0 e.1 (subst (λ (p : F). Called g p (a, (x, tt)) e.0 e.1) before.0 e.3) in
+        let none : None ≡ left_after a text (get_or args k x.now) = sym e.4 ∙ last.1 ∙ ap (left_after a text) here.1 in
+        let parts : args ≡ map (λ x. x.now) xs ++ drop k args = sym (take-append-drop k args) ∙ ap (λ (zs : List (Argument ObjectId)). zs ++ drop k args) (sym (YieldsList-so_far road xs t y)) in
+        ap is_some e.5
+        ∙ sym (ap (sendable n text) parts ∙ before.1 ∙ at_drop_more (sendable a text) args k x.now here.0 ∙ ap (λ (o : Option ℕ). when_left o (λ m. sendable m text (drop (k + 1) args))) (sym none))
 
-pub sendable-all : (text : List ℕ) (args : List (Argument ObjectId)) (i n : ℕ) → length args ≤ i → sendable n text (drop i args) ≡ true
-sendable-all text args i n h = at_drop_all (sendable n text) args i h
+    pub sendable_so : (n : ℕ) (r : Option ℕ) {u : S} → TryFoldsItems steps g (λ (v : Option ℕ) (c : ControlFlow E ℕ). v ≡ continue_value c) (λ _ r. r ≡ None) s f n r u → is_some r ≡ sendable n text args
+    sendable_so n r {u} h = ended h.1 h.0 h.2 n h.3 h.4.0 u r h.4.1 h.4.2 h.5 h.6

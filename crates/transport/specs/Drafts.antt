@@ -41,6 +41,10 @@ Whole d = (n : ℕ) → clipped (spoken (with_child n d)) ≡ spoken (with_child
 abbrev pub inside : ℕ → List ℕ → Span → Bool
 inside n text s = nat_le s.start (length text) && (nat_le s.len (length text - s.start) && nat_le s.len n)
 
+-- the bytes that such a span names
+abbrev pub part : ℕ → List ℕ → Span → Option (List ℕ)
+part n text s = cond (inside n text s) (Some (spanned text s)) None
+
 -- how many of n bytes an argument leaves, if it may be sent: its bytes lie in the text, and a string has no zero
 abbrev pub left_after : ℕ → List ℕ → Argument ObjectId → Option ℕ
 left_after n text (Int x) = Some n

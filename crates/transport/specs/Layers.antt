@@ -1,26 +1,22 @@
 -- The buffered end: frames held above another end.
-use Rattle.std.specs.Prelude.{ℕ, ◌+◌, min, max, Bool, true, false, cond, ◌&&◌, List, [], ◌∷◌, ◌++◌, length, take, Ok, Err, fold, Result, ◌==◌, nat_le}
+use Rattle.std.specs.Prelude.{ℕ, ◌+◌, ◌-◌, max, Bool, true, false, cond, ◌&&◌, List, [], ◌∷◌, ◌++◌, length, Ok, Err, fold, Result, ◌==◌, nat_le}
 use Rattle.protocol.specs.declared.error.TransportFault.{TransportFault}
 use Rattle.protocol.specs.declared.refusal.Refusal.{Refusal}
 use Rattle.protocol.specs.declared.refusal.Refusal.TheVariants.{BadRoom}
 use Rattle.transport.specs.declared.buffered.BufferedEnd.{BufferedEnd}
 use Rattle.transport.specs.Wire.{Message}
-use Rattle.transport.specs.Rings.{Queue, queue_of, pushing}
+use Rattle.transport.specs.Rings.{Queue, pushing}
 use Rattle.transport.specs.Lists.{Listed, end_of}
 use Rattle.transport.specs.Ends.{End, fault, putting, flushing}
-use Rattle.transport.specs.declared.held.Held.{Held}
-
--- how many frames are held at most: 1 to 8
-abbrev pub capacity_of : ℕ → ℕ
-capacity_of n = max 1 (min n 8)
-
--- the frames that are held, and the places that are free
-abbrev pub held_of : Held → Queue
-held_of h = queue_of h.ring (take (capacity_of h.capacity) h.places)
+use Rattle.transport.specs.Kept.{Kept}
 
 -- a queue of frames and free places
 abbrev pub queue : List Message → ℕ → Queue
 queue ms n = record { frames = ms; free = n }
+
+-- the frames that are held, and the places that are free; there is at least one place
+abbrev pub held_of : Kept → Queue
+held_of k = queue k.frames (max 1 k.capacity - length k.frames)
 
 -- how many places a queue has, taken and free
 abbrev pub total : Queue → ℕ

@@ -4,7 +4,10 @@ pub mod Drafts
 pub mod Signatures
 pub mod Frames
 pub mod Rings
+pub mod Kept
 pub mod Ends
 pub mod Lists
 pub mod Layers
 pub mod Laws
+pub mod Grounds
+pub mod Stacks

@@ -1,5 +1,5 @@
 -- The list end: the end at the bottom, over two rooms of frames.
-use Rattle.std.specs.Prelude.{ℕ, min, Bool, cond, [], length, ◌==◌}
+use Rattle.std.specs.Prelude.{ℕ, min, Bool, cond, [], length, Some, None, Option, ◌==◌}
 use Rattle.transport.specs.Wire.{Message}
 use Rattle.transport.specs.Rings.{Queue, queue_of, pushing, releasing}
 use Rattle.transport.specs.Ends.{End, frames}
@@ -12,13 +12,22 @@ pub record Listed : Type 0 where
   pub outgoing : Queue
   pub write_stop : ℕ
 
+-- a stop as a number: 0 is none
+abbrev pub code_of : Option ℕ → ℕ
+code_of None = 0
+code_of (Some code) = code
+
+-- and back
+abbrev pub code_in : ℕ → Option ℕ
+code_in code = cond (code == 0) None (Some code)
+
 -- a stop is never "would block": that is read as no stop
 abbrev pub stop_of : ℕ → ℕ
 stop_of code = cond (code == 11) 0 code
 
 -- what a list end in the code holds
 abbrev pub list_of : ListEnd → Listed
-list_of s = record { incoming = queue_of s.waiting s.incoming.now; read_stop = stop_of s.read_stop; outgoing = queue_of s.sent s.outgoing.now; write_stop = stop_of s.write_stop }
+list_of s = record { incoming = queue_of s.waiting s.incoming.now; read_stop = stop_of (code_of s.read_stop); outgoing = queue_of s.sent s.outgoing.now; write_stop = stop_of (code_of s.write_stop) }
 
 -- what it means as an end: nothing lies above it, and once writing stopped there is no room
 abbrev pub end_of : Listed → End

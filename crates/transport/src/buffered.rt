@@ -1,9 +1,11 @@
 //! An end that holds frames above another, so that a put rarely has to wait for the end below.
 
-ghost use Rattle.std.specs.Prelude.{◌≡◌, ◌<◌, [], ◌∷◌, ◌++◌};
+ghost use Rattle.std.specs.Prelude.{◌≡◌, [], ◌∷◌, ◌++◌};
 ghost use Rattle.transport.specs.Drafts.{outgoing_of};
-ghost use Rattle.transport.specs.Ends.{putting, flushing, Grounded, GroundedIf};
-ghost use Rattle.transport.specs.Layers.{held_of, total, over, passing, raised, put_through, flush_through, buffering, layered};
+ghost use Rattle.transport.specs.Ends.{putting, flushing};
+ghost use Rattle.transport.specs.Layers.{held_of, over, passing, raised, put_through, flush_through, buffering, layered};
+ghost use Rattle.transport.specs.Grounds.{over_grounded, held_some};
+ghost use Rattle.transport.specs.Stacks.{stacked_more};
 
 use crate::frame::{Frame, TakeError};
 use crate::held::{Held, MAX_HELD};
@@ -24,9 +26,7 @@ pub struct BufferedEnd<E> {
 
 // Passes what is held down, in order, until the end below faults.
 fn pass<E: Transport>(lower: &mut E, held: &mut Held) -> Result<(), TransportFault>
-    ensures passed { (result, E.Transport.means lower.new, held_of held.new) ≡ passing (E.Transport.means lower.old) (held_of held.old) }
-    ensures grounded { GroundedIf result (E.Transport.means lower.new) }
-    ensures places { 0 < total (held_of held.old) }
+    ensures { (result, E.Transport.means lower.new, held_of held.new) ≡ passing (E.Transport.means lower.old) (held_of held.old) }
 {
     while let Some(frame) = held.first() {
         lower.put(&frame.message())?;
@@ -52,6 +52,8 @@ fn raise(fault: TransportFault) -> TransportFault
 impl<E: Transport> Transport for BufferedEnd<E> {
     ghost means = { λ s. over (E.Transport.means s.lower) (held_of s.held) };
 
+    ghost grounded = { λ s. over_grounded (E.Transport.means s.lower) (held_of s.held) (E.Transport.grounded s.lower) (held_some s.held) };
+
     fn first(&self) -> Result<(u32, u16), TransportFault> {
         self.lower.first()
     }
@@ -69,7 +71,6 @@ impl<E: Transport> Transport for BufferedEnd<E> {
     fn put(&mut self, message: &Outgoing<'_>) -> Result<(), TransportFault>
         ensures layers { (result, E.Transport.means self.new.lower, held_of self.new.held) ≡ put_through (outgoing_of message.now) (E.Transport.means self.old.lower) (held_of self.old.held) }
         ensures defined { (result, over (E.Transport.means self.new.lower) (held_of self.new.held)) ≡ putting (outgoing_of message.now) (over (E.Transport.means self.old.lower) (held_of self.old.held)) }
-        ensures grounded { GroundedIf result (over (E.Transport.means self.old.lower) (held_of self.old.held)) }
     {
         if self.held.push(message) {
             return Ok(());
@@ -78,10 +79,7 @@ impl<E: Transport> Transport for BufferedEnd<E> {
         if self.held.push(message) {
             return Ok(());
         }
-        match passed {
-            Ok(()) => Ok(()),
-            Err(fault) => Err(raise(fault)),
-        }
+        passed.map_err(raise)
     }
 
     // The same: all is passed down first.
@@ -89,17 +87,13 @@ impl<E: Transport> Transport for BufferedEnd<E> {
         ensures layers { (result, E.Transport.means self.new.lower, held_of self.new.held) ≡ flush_through (E.Transport.means self.old.lower) (held_of self.old.held) }
         ensures same { over (E.Transport.means self.new.lower) (held_of self.new.held) ≡ over (E.Transport.means self.old.lower) (held_of self.old.held) }
         ensures answer { result ≡ flushing (over (E.Transport.means self.old.lower) (held_of self.old.held)) }
-        ensures grounded { Grounded (over (E.Transport.means self.old.lower) (held_of self.old.held)) }
     {
         let passed = pass(&mut self.lower, &mut self.held);
         self.lower.flush()?;
-        match passed {
-            Ok(()) => Ok(()),
-            Err(_) => Err(TransportFault {
-                layer: 0,
-                code: TransportFault::WOULD_BLOCK,
-            }),
-        }
+        passed.map_err(|_| TransportFault {
+            layer: 0,
+            code: TransportFault::WOULD_BLOCK,
+        })
     }
 }
 
@@ -108,7 +102,7 @@ impl<E: Transport> BufferedEnd<E> {
     pub fn new(lower: E, frames: usize) -> Result<BufferedEnd<E>, (Refusal, E)>
         ensures { layered result ≡ buffering lower frames }
     {
-        if frames < 1 || frames > MAX_HELD {
+        if !(1..=MAX_HELD).contains(&frames) {
             return Err((Refusal::BadRoom, lower));
         }
         Ok(BufferedEnd {
@@ -122,6 +116,8 @@ impl<E: World> World for BufferedEnd<E> {
     ghost bottom = { λ s. E.World.bottom s.lower };
 
     ghost above = { λ s. E.World.above s.lower ++ held_of s.held ∷ [] };
+
+    ghost stack = { λ s. stacked_more (held_of s.held) (E.Transport.means s.lower) (E.World.bottom s.lower) (E.World.above s.lower) (E.World.stack s.lower) };
 
     fn deliver(&mut self, message: &Outgoing<'_>) -> bool {
         self.lower.deliver(message)
@@ -139,11 +135,11 @@ impl<E: World> World for BufferedEnd<E> {
         self.lower.sent_at(i)
     }
 
-    fn set_read_stop(&mut self, code: u32) {
-        self.lower.set_read_stop(code);
+    fn set_read_stop(&mut self, stop: Option<u32>) {
+        self.lower.set_read_stop(stop);
     }
 
-    fn set_write_stop(&mut self, code: u32) {
-        self.lower.set_write_stop(code);
+    fn set_write_stop(&mut self, stop: Option<u32>) {
+        self.lower.set_write_stop(stop);
     }
 }

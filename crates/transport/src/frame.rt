@@ -1,12 +1,10 @@
 //! A frame: a message in a place of fixed size, written only as far as it is used.
 
 ghost use Rattle.std.specs.Prelude.{◌≡◌, ◌≤◌, [], length};
-ghost use Rattle.transport.specs.Signatures.{takes, kind_of, fits_raw};
 ghost use Rattle.transport.specs.Layout.{arg_of};
-ghost use Rattle.transport.specs.Drafts.{outgoing_of};
-ghost use Rattle.transport.specs.Frames.{frame_of, roomy, reading, unpacking};
+ghost use Rattle.transport.specs.Signatures.{takes, kind_of, fits_raw};
 
-use crate::layout::{MAX_ARGS, MAX_TEXT, lay};
+use crate::layout::{check_rooms, lay};
 use crate::outgoing::Outgoing;
 use protocol::argument::{AllowNull, Argument, ArgumentType};
 use protocol::id::ObjectId;
@@ -20,10 +18,11 @@ pub struct Frame {
     count: usize,
     args: [Argument<ObjectId>; 20],
     text: [u8; 1024],
+    ghost few: { count ≤ 20 },
 }
 
 /// Why no frame was taken.
-#[derive(Clone, Copy)]
+#[derive(Clone, Copy, PartialEq, Eq, Debug)]
 pub enum TakeError {
     /// No frame waits, or it does not fit the signature.
     Malformed,
@@ -31,7 +30,20 @@ pub enum TakeError {
     Refused(Refusal),
 }
 
+impl From<Refusal> for TakeError {
+    ghost use Rattle.transport.specs.declared.frame.TakeError.TheVariants.{Refused};
+
+    ghost from_gives = { λ x r. r ≡ Refused x };
+
+    fn from(refusal: Refusal) -> TakeError {
+        TakeError::Refused(refusal)
+    }
+}
+
 impl Frame {
+    ghost use Rattle.transport.specs.Drafts.{outgoing_of};
+    ghost use Rattle.transport.specs.Frames.{frame_of, reading, unpacking};
+
     /// A place to fill: a frame without arguments.
     pub const EMPTY: Frame = Frame {
         sender: 0,
@@ -52,12 +64,11 @@ impl Frame {
     pub fn message(&self) -> Outgoing<'_>
         ensures { outgoing_of result ≡ frame_of self.now }
     {
-        let count = self.count.min(MAX_ARGS);
         Outgoing {
             sender: self.sender,
             opcode: self.opcode,
             child: 0,
-            args: &self.args[0..count],
+            args: &self.args[..self.count],
             text: &self.text,
         }
     }
@@ -81,11 +92,8 @@ impl Frame {
     pub fn read(&self, args: &mut [Argument<ObjectId>], text: &mut [u8]) -> Result<usize, Refusal>
         ensures { (result, args.new, text.new) ≡ reading (frame_of self.now).args args.old text.old }
     {
-        if !has_room(args, text) {
-            return Err(Refusal::BadRoom);
-        }
-        let count = self.count.min(MAX_ARGS);
-        Ok(lay(0, &self.args[0..count], &self.text, args, text))
+        check_rooms(args, text)?;
+        Ok(lay(0, &self.args[..self.count], &self.text, args, text))
     }
 
     /// The same where the arguments fit a signature.
@@ -99,48 +107,36 @@ impl Frame {
         requires text { 1024 ≤ length text.old }
         ensures { (result, args.new, text.new) ≡ unpacking signature.now (frame_of self.now).args args.old text.old }
     {
-        let count = self.count.min(MAX_ARGS);
-        if !accepts_all(signature, &self.args[0..count]) {
+        if !accepts_all(signature, &self.args[..self.count]) {
             return Err(TakeError::Malformed);
         }
-        Ok(lay(0, &self.args[0..count], &self.text, args, text))
+        Ok(lay(0, &self.args[..self.count], &self.text, args, text))
     }
-}
-
-/// Whether any frame fits into two rooms.
-pub(crate) fn has_room(args: &[Argument<ObjectId>], text: &[u8]) -> bool
-    ensures { result ≡ roomy args.now text.now }
-{
-    args.len() >= MAX_ARGS && text.len() >= MAX_TEXT
 }
 
 fn accepts(kind: ArgumentType, arg: Argument<ObjectId>) -> bool
     ensures { result ≡ takes kind (kind_of (arg_of [] arg)) }
 {
-    match (kind, arg) {
-        (ArgumentType::Int, Argument::Int(_)) => true,
-        (ArgumentType::Uint, Argument::Uint(_)) => true,
-        (ArgumentType::Fixed, Argument::Fixed(_)) => true,
-        (ArgumentType::Str(AllowNull::Yes), Argument::Str(_)) => true,
-        (ArgumentType::Str(AllowNull::No), Argument::Str(Some(_))) => true,
-        (ArgumentType::Object(_), Argument::Object(_)) => true,
-        (ArgumentType::NewId, Argument::NewId(_)) => true,
-        (ArgumentType::Array, Argument::Array(_)) => true,
-        (ArgumentType::Fd, Argument::Fd(_)) => true,
-        _ => false,
-    }
+    matches!(
+        (kind, arg),
+        (ArgumentType::Int, Argument::Int(_))
+            | (ArgumentType::Uint, Argument::Uint(_))
+            | (ArgumentType::Fixed, Argument::Fixed(_))
+            | (ArgumentType::Str(AllowNull::Yes), Argument::Str(_))
+            | (ArgumentType::Str(AllowNull::No), Argument::Str(Some(_)))
+            | (ArgumentType::Object(_), Argument::Object(_))
+            | (ArgumentType::NewId, Argument::NewId(_))
+            | (ArgumentType::Array, Argument::Array(_))
+            | (ArgumentType::Fd, Argument::Fd(_))
+    )
 }
 
 fn accepts_all(signature: &[ArgumentType], args: &[Argument<ObjectId>]) -> bool
     ensures { result ≡ fits_raw signature.now args.now }
 {
-    if signature.len() != args.len() {
-        return false;
-    }
-    for i in 0..args.len() {
-        if !accepts(signature[i], args[i]) {
-            return false;
-        }
-    }
-    true
+    signature.len() == args.len()
+        && signature
+            .iter()
+            .zip(args)
+            .all(|(kind, arg)| accepts(*kind, *arg))
 }

@@ -1,17 +1,31 @@
 //! Arguments and their texts, copied from room to room.
 
-ghost use Rattle.std.specs.Prelude.{◌≡◌, ◌+◌, ◌-◌, ◌≤◌, map, length, take, if◌then◌else◌, nat_eq};
+ghost use Rattle.std.specs.Prelude.{◌≡◌, ◌+◌, ◌-◌, ◌≤◌, map, length, take, if◌then◌else◌};
+ghost use Rattle.protocol.specs.declared.refusal.Refusal.TheVariants.{BadRoom};
 ghost use Rattle.transport.specs.Wire.{given, held};
+ghost use Rattle.transport.specs.Frames.{roomy};
 ghost use Rattle.transport.specs.Layout.{arg_of, args_of, raw, spanned, overwritten, lay_one, lay_into};
 
 use protocol::argument::{Argument, Span};
 use protocol::core_interfaces::ANONYMOUS;
 use protocol::id::ObjectId;
+use protocol::refusal::Refusal;
 
 /// How many arguments a frame has at most.
 pub const MAX_ARGS: usize = 20;
 /// How many bytes its strings and arrays have at most, all together.
 pub const MAX_TEXT: usize = 1024;
+
+/// Whether any frame fits into two rooms.
+pub(crate) fn check_rooms(args: &[Argument<ObjectId>], text: &[u8]) -> Result<(), Refusal>
+    ensures { result ≡ (if roomy args.now text.now then Ok tt else Err BadRoom) }
+{
+    if args.len() >= MAX_ARGS && text.len() >= MAX_TEXT {
+        Ok(())
+    } else {
+        Err(Refusal::BadRoom)
+    }
+}
 
 fn raw_handle(number: u32) -> ObjectId
     ensures { result ≡ raw number }
@@ -23,13 +37,6 @@ fn raw_handle(number: u32) -> ObjectId
     }
 }
 
-// The number of a new object: null stands for the child.
-fn number_or(child: u32, number: u32) -> u32
-    ensures { result ≡ (if nat_eq number 0 then child else number) }
-{
-    if number == 0 { child } else { number }
-}
-
 // Copies as much of a span as a text of `MAX_TEXT` bytes has left behind `at`.
 fn copy_span(text: &[u8], span: Span, room: &mut [u8], at: usize) -> usize
     requires room { 1024 ≤ length room.old }
@@ -38,10 +45,10 @@ fn copy_span(text: &[u8], span: Span, room: &mut [u8], at: usize) -> usize
     ensures len { result ≡ length (take (1024 - at) (spanned text.now span)) }
     ensures room { room.new ≡ overwritten at (take (1024 - at) (spanned text.now span)) room.old }
 {
-    let start = span.start.min(text.len());
-    let len = span.len.min(text.len() - start).min(MAX_TEXT - at);
-    room[at..at + len].copy_from_slice(&text[start..start + len]);
-    len
+    let behind = &text[span.start.min(text.len())..];
+    let part = &behind[..span.len.min(behind.len()).min(MAX_TEXT - at)];
+    room[at..at + part.len()].copy_from_slice(part);
+    part.len()
 }
 
 // Lays one argument behind the `at` bytes in use: the argument for its new room, and the bytes in use then.
@@ -57,23 +64,24 @@ fn lay_one(
     ensures { (result, room.new) ≡ lay_one at (given child (arg_of text.now arg)) room.old }
 {
     match arg {
-        Argument::Str(string) => match string {
-            Some(span) => {
-                let len = copy_span(text, span, room, at);
-                (Argument::Str(Some(Span { start: at, len })), at + len)
-            }
-            None => (arg, at),
-        },
+        Argument::Str(Some(span)) => {
+            let len = copy_span(text, span, room, at);
+            (Argument::Str(Some(Span { start: at, len })), at + len)
+        }
         Argument::Array(span) => {
             let len = copy_span(text, span, room, at);
             (Argument::Array(Span { start: at, len }), at + len)
         }
         Argument::Object(id) => (Argument::Object(raw_handle(id.number)), at),
-        Argument::NewId(id) => (Argument::NewId(raw_handle(number_or(child, id.number))), at),
-        Argument::Int(_) => (arg, at),
-        Argument::Uint(_) => (arg, at),
-        Argument::Fixed(_) => (arg, at),
-        Argument::Fd(_) => (arg, at),
+        Argument::NewId(id) => {
+            let number = if id.number == 0 { child } else { id.number };
+            (Argument::NewId(raw_handle(number)), at)
+        }
+        Argument::Str(None)
+        | Argument::Int(_)
+        | Argument::Uint(_)
+        | Argument::Fixed(_)
+        | Argument::Fd(_) => (arg, at),
     }
 }
 
@@ -90,12 +98,11 @@ pub(crate) fn lay(
     requires room { 1024 ≤ length room.old }
     ensures { (result, places.new, room.new) ≡ lay_into (held (map (given child) (args_of args.now text.now))) places.old room.old }
 {
-    let count = args.len().min(MAX_ARGS);
+    let args = &args[..args.len().min(MAX_ARGS)];
     let mut end = 0;
-    for i in 0..count {
-        let (arg, next) = lay_one(child, args[i], text, room, end);
-        places[i] = arg;
-        end = next;
+    // By index: after an adapter of `iter_mut` a proof knows nothing of the places.
+    for (i, arg) in args.iter().enumerate() {
+        (places[i], end) = lay_one(child, *arg, text, room, end);
     }
-    count
+    args.len()
 }

@@ -1,10 +1,12 @@
 //! The end at the bottom: two rooms of frames that the caller lends, and what the world does to them.
 
-ghost use Rattle.std.specs.Prelude.{◌≡◌, [], length};
+ghost use Rattle.std.specs.Prelude.{◌≡◌, [], length, refl};
 ghost use Rattle.transport.specs.Ends.{taking};
-ghost use Rattle.transport.specs.Lists.{list_of, list_means, stop_of, fresh};
+ghost use Rattle.transport.specs.Lists.{list_of, list_means, code_of, code_in, stop_of, fresh};
+ghost use Rattle.transport.specs.Grounds.{list_grounded};
 
-use crate::frame::{Frame, TakeError, has_room};
+use crate::frame::{Frame, TakeError};
+use crate::layout::check_rooms;
 use crate::outgoing::Outgoing;
 use crate::ring::Ring;
 use crate::transport::Transport;
@@ -12,28 +14,23 @@ use crate::world::World;
 use protocol::argument::{Argument, ArgumentType};
 use protocol::error::TransportFault;
 use protocol::id::ObjectId;
-use protocol::refusal::Refusal;
 
 /// Frames wait in one room to be taken, and frames that were put stay in the other until they are collected.
 #[derive(Drop)]
 pub struct ListEnd<'a> {
     incoming: &'a mut [Frame],
     waiting: Ring,
-    read_stop: u32,
+    read_stop: Option<u32>,
     outgoing: &'a mut [Frame],
     sent: Ring,
-    write_stop: u32,
+    write_stop: Option<u32>,
 }
 
-// A stop is never "would block".
-fn stop_code(code: u32) -> u32
-    ensures { result ≡ stop_of code }
+// A stop is never 0, and never "would block".
+fn stopped_by(stop: Option<u32>) -> Option<u32>
+    ensures { result ≡ code_in (stop_of (code_of stop)) }
 {
-    if code == TransportFault::WOULD_BLOCK {
-        0
-    } else {
-        code
-    }
+    stop.filter(|code| !matches!(*code, 0 | TransportFault::WOULD_BLOCK))
 }
 
 impl<'a> ListEnd<'a> {
@@ -44,10 +41,10 @@ impl<'a> ListEnd<'a> {
         ListEnd {
             incoming,
             waiting: Ring::EMPTY,
-            read_stop: 0,
+            read_stop: None,
             outgoing,
             sent: Ring::EMPTY,
-            write_stop: 0,
+            write_stop: None,
         }
     }
 }
@@ -62,13 +59,11 @@ impl ListEnd<'_> {
     ) -> Result<usize, TakeError>
         ensures { (result, args.new, text.new) ≡ (taking signature.now (list_means self.now) args.old text.old).0 }
     {
-        if !has_room(args, text) {
-            return Err(TakeError::Refused(Refusal::BadRoom));
-        }
-        let room = &*self.incoming;
-        let Some(frame) = self.waiting.get(room, 0) else {
-            return Err(TakeError::Malformed);
-        };
+        check_rooms(args, text)?;
+        let frame = self
+            .waiting
+            .get(self.incoming, 0)
+            .ok_or(TakeError::Malformed)?;
         frame.unpack(signature, args, text)
     }
 }
@@ -76,18 +71,16 @@ impl ListEnd<'_> {
 impl<'a> Transport for ListEnd<'a> {
     ghost means = { list_means };
 
+    ghost grounded = { list_grounded };
+
     fn first(&self) -> Result<(u32, u16), TransportFault> {
-        let room = &*self.incoming;
-        if let Some(frame) = self.waiting.get(room, 0) {
-            return Ok(frame.head());
+        match self.waiting.get(self.incoming, 0) {
+            Some(frame) => Ok(frame.head()),
+            None => Err(TransportFault {
+                layer: 0,
+                code: stopped_by(self.read_stop).unwrap_or(TransportFault::WOULD_BLOCK),
+            }),
         }
-        let stop = stop_code(self.read_stop);
-        let code = if stop == 0 {
-            TransportFault::WOULD_BLOCK
-        } else {
-            stop
-        };
-        Err(TransportFault { layer: 0, code })
     }
 
     fn take(
@@ -97,23 +90,15 @@ impl<'a> Transport for ListEnd<'a> {
         text: &mut [u8],
     ) -> Result<usize, TakeError> {
         let count = self.unpack_first(signature, args, text)?;
-        let places = self.incoming.len();
-        self.waiting.release(places, 1);
+        self.waiting.release(self.incoming.len(), 1);
         Ok(count)
     }
 
     fn put(&mut self, message: &Outgoing<'_>) -> Result<(), TransportFault> {
-        let stop = stop_code(self.write_stop);
-        if stop != 0 {
-            return Err(TransportFault {
-                layer: 0,
-                code: stop,
-            });
+        if let Some(code) = stopped_by(self.write_stop) {
+            return Err(TransportFault { layer: 0, code });
         }
-        let mut sent = self.sent;
-        let placed = sent.push(&mut *self.outgoing, message);
-        self.sent = sent;
-        if placed {
+        if self.sent.push(self.outgoing, message) {
             Ok(())
         } else {
             Err(TransportFault {
@@ -124,9 +109,9 @@ impl<'a> Transport for ListEnd<'a> {
     }
 
     fn flush(&mut self) -> Result<(), TransportFault> {
-        match stop_code(self.write_stop) {
-            0 => Ok(()),
-            code => Err(TransportFault { layer: 0, code }),
+        match stopped_by(self.write_stop) {
+            None => Ok(()),
+            Some(code) => Err(TransportFault { layer: 0, code }),
         }
     }
 }
@@ -136,17 +121,15 @@ impl<'a> World for ListEnd<'a> {
 
     ghost above = { λ _. [] };
 
+    ghost stack = { λ _. refl };
+
     fn deliver(&mut self, message: &Outgoing<'_>) -> bool {
-        let mut waiting = self.waiting;
-        let placed = waiting.push(&mut *self.incoming, message);
-        self.waiting = waiting;
-        placed
+        self.waiting.push(self.incoming, message)
     }
 
     fn collect(&mut self, n: usize) -> usize {
         let gone = n.min(self.sent_len());
-        let places = self.outgoing.len();
-        self.sent.release(places, n);
+        self.sent.release(self.outgoing.len(), n);
         gone
     }
 
@@ -155,15 +138,14 @@ impl<'a> World for ListEnd<'a> {
     }
 
     fn sent_at(&self, i: usize) -> Option<&Frame> {
-        let room = &*self.outgoing;
-        self.sent.get(room, i)
+        self.sent.get(self.outgoing, i)
     }
 
-    fn set_read_stop(&mut self, code: u32) {
-        self.read_stop = code;
+    fn set_read_stop(&mut self, stop: Option<u32>) {
+        self.read_stop = stop;
     }
 
-    fn set_write_stop(&mut self, code: u32) {
-        self.write_stop = code;
+    fn set_write_stop(&mut self, stop: Option<u32>) {
+        self.write_stop = stop;
     }
 }

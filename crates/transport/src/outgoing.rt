@@ -1,9 +1,8 @@
 //! A message on its way out, over rooms that the caller lends.
 
 ghost use Rattle.std.specs.Prelude.{◌≡◌, IfOk};
-ghost use Rattle.protocol.specs.Pairwise.{all};
-ghost use Rattle.protocol.specs.Rules.{nonzero};
-ghost use Rattle.transport.specs.Drafts.{draft_of, with_child, Whole, inside, left_after, sendable, composing, composed};
+ghost use Rattle.std.specs.Option.{option_map};
+ghost use Rattle.transport.specs.Drafts.{draft_of, with_child, Whole, part, left_after, sendable, composing, composed};
 
 use crate::layout::{MAX_ARGS, MAX_TEXT};
 use protocol::argument::{Argument, Span};
@@ -50,30 +49,18 @@ impl<'a> Outgoing<'a> {
         ensures { draft_of result ≡ with_child number (draft_of self.entry) }
     {
         Outgoing {
-            sender: self.sender,
-            opcode: self.opcode,
             child: number,
-            args: self.args,
-            text: self.text,
+            ..self
         }
     }
 }
 
-fn no_zero(bytes: &[u8]) -> bool
-    ensures { result ≡ all nonzero bytes.now }
+// The bytes that a span names, if they lie in the text and are at most `left`.
+fn part(left: usize, text: &[u8], span: Span) -> Option<&[u8]>
+    ensures { option_map (λ s. s.now) result ≡ part left text.now span }
 {
-    for i in 0..bytes.len() {
-        if bytes[i] == 0 {
-            return false;
-        }
-    }
-    true
-}
-
-fn lies_inside(left: usize, text: &[u8], span: Span) -> bool
-    ensures { result ≡ inside left text.now span }
-{
-    span.start <= text.len() && span.len <= text.len() - span.start && span.len <= left
+    let bytes = text.get(span.start..)?.get(..span.len)?;
+    (bytes.len() <= left).then_some(bytes)
 }
 
 // How many of the bytes that are left an argument leaves, if it may be sent.
@@ -81,46 +68,25 @@ fn left_after(left: usize, text: &[u8], arg: Argument<ObjectId>) -> Option<usize
     ensures { result ≡ left_after left text.now arg }
 {
     match arg {
-        Argument::Str(string) => match string {
-            Some(span) => {
-                if !lies_inside(left, text, span) {
-                    return None;
-                }
-                let start = span.start;
-                let end = start + span.len;
-                if no_zero(&text[start..end]) {
-                    Some(left - span.len)
-                } else {
-                    None
-                }
-            }
-            None => Some(left),
-        },
-        Argument::Array(span) => {
-            if lies_inside(left, text, span) {
-                Some(left - span.len)
-            } else {
-                None
-            }
+        Argument::Str(Some(span)) => {
+            let bytes = part(left, text, span)?;
+            (!bytes.contains(&0)).then_some(left - bytes.len())
         }
-        Argument::Int(_) => Some(left),
-        Argument::Uint(_) => Some(left),
-        Argument::Fixed(_) => Some(left),
-        Argument::Object(_) => Some(left),
-        Argument::NewId(_) => Some(left),
-        Argument::Fd(_) => Some(left),
+        Argument::Array(span) => Some(left - part(left, text, span)?.len()),
+        Argument::Str(None)
+        | Argument::Int(_)
+        | Argument::Uint(_)
+        | Argument::Fixed(_)
+        | Argument::Object(_)
+        | Argument::NewId(_)
+        | Argument::Fd(_) => Some(left),
     }
 }
 
 fn all_sendable(args: &[Argument<ObjectId>], text: &[u8]) -> bool
     ensures { result ≡ sendable 1024 text.now args.now }
 {
-    let mut left = MAX_TEXT;
-    for i in 0..args.len() {
-        let Some(rest) = left_after(left, text, args[i]) else {
-            return false;
-        };
-        left = rest;
-    }
-    true
+    args.iter()
+        .try_fold(MAX_TEXT, |left, arg| left_after(left, text, *arg))
+        .is_some()
 }

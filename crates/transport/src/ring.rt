@@ -40,13 +40,12 @@ impl Ring {
     pub fn push(&mut self, room: &mut [Frame], message: &Outgoing<'_>) -> bool
         ensures { (result, queue_of self.new room.new) ≡ pushing (outgoing_of message.now) (queue_of self.old room.old) }
     {
-        let count = self.count;
-        if count >= room.len() {
+        if self.count >= room.len() {
             return false;
         }
-        let i = place_of(room.len(), self.head, count);
+        let i = place_of(room.len(), self.head, self.count);
         room[i].set(message);
-        self.count = count + 1;
+        self.count += 1;
         true
     }
 

@@ -2,7 +2,7 @@
 
 ghost use Rattle.std.specs.Prelude.{◌≡◌};
 ghost use Rattle.transport.specs.Drafts.{outgoing_of};
-ghost use Rattle.transport.specs.Ends.{End, first_in, taking, putting, flushing, Grounded, GroundedIf};
+ghost use Rattle.transport.specs.Ends.{End, first_in, taking, putting, flushing, Grounded};
 
 use crate::frame::TakeError;
 use crate::outgoing::Outgoing;
@@ -22,6 +22,7 @@ pub trait Transport {
     /// Takes the first frame, where it fits the signature: its arguments and their texts are written from the start of
     /// the two rooms, which have at least 20 places and 1,024 bytes, and what lies behind stays. Answers how many
     /// arguments there are. Where it fails nothing is changed.
+    // The rooms are two parameters: a layer that passes a struct of both on loses what they hold afterwards.
     fn take(
         &mut self,
         signature: &[ArgumentType],
@@ -33,13 +34,14 @@ pub trait Transport {
     /// Accepts a message behind the others. Where there is no room it faults and changes nothing: with the code that
     /// stopped writing; else it would block, at the bottom, and the frames that are held back are too many, above it.
     fn put(&mut self, message: &Outgoing<'_>) -> Result<(), TransportFault>
-        ensures defined { (result, means self.new) ≡ putting (outgoing_of message.now) (means self.old) }
-        ensures grounded { GroundedIf result (means self.old) };
+        ensures { (result, means self.new) ≡ putting (outgoing_of message.now) (means self.old) };
 
     /// Passes what was accepted on, as far as it goes. Faults with the code that stopped writing; else it would block
     /// where not all reached the bottom.
     fn flush(&mut self) -> Result<(), TransportFault>
         ensures same { means self.new ≡ means self.old }
-        ensures answer { result ≡ flushing (means self.old) }
-        ensures grounded { Grounded (means self.old) };
+        ensures answer { result ≡ flushing (means self.old) };
+
+    // A law: where nothing lies above the bottom no layer is named, and a stop is never "would block".
+    ghost grounded: { (s : Self) → Grounded (means s) };
 }

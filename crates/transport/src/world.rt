@@ -6,7 +6,7 @@ ghost use Rattle.std.specs.List.{slice_get};
 ghost use Rattle.transport.specs.Drafts.{outgoing_of};
 ghost use Rattle.transport.specs.Frames.{frame_of};
 ghost use Rattle.transport.specs.Rings.{Queue};
-ghost use Rattle.transport.specs.Lists.{Listed, delivering, collecting, stopping_reads, stopping_writes};
+ghost use Rattle.transport.specs.Lists.{Listed, code_of, delivering, collecting, stopping_reads, stopping_writes};
 ghost use Rattle.transport.specs.Layers.{stacked};
 
 use crate::frame::Frame;
@@ -22,16 +22,13 @@ pub trait World: Transport {
     /// A message arrives, and waits behind the others; false where there is no place for it.
     fn deliver(&mut self, message: &Outgoing<'_>) -> bool
         ensures defined { (result, bottom self.new) ≡ delivering (outgoing_of message.now) (bottom self.old) }
-        ensures above { above self.new ≡ above self.old }
-        ensures stack { Self.Transport.means self.new ≡ stacked (bottom self.new) (above self.new) };
+        ensures above { above self.new ≡ above self.old };
 
     /// The first `n` frames that were sent and reached the bottom go, and their places are free again. Answers how many
     /// there were.
     fn collect(&mut self, n: usize) -> usize
         ensures defined { (result, bottom self.new) ≡ collecting n (bottom self.old) }
-        ensures above { above self.new ≡ above self.old }
-        ensures before { Self.Transport.means self.old ≡ stacked (bottom self.old) (above self.old) }
-        ensures stack { Self.Transport.means self.new ≡ stacked (bottom self.new) (above self.new) };
+        ensures above { above self.new ≡ above self.old };
 
     /// How many sent frames there are at the bottom.
     fn sent_len(&self) -> usize
@@ -41,15 +38,16 @@ pub trait World: Transport {
     fn sent_at(&self, i: usize) -> Option<&Frame>
         ensures { option_map (λ f. frame_of f.now) result ≡ slice_get (bottom self.now).outgoing.frames i };
 
-    /// Reading meets this code once no frame waits; 0 is none, and 11 is read as none.
-    fn set_read_stop(&mut self, code: u32)
-        ensures defined { bottom self.new ≡ stopping_reads code (bottom self.old) }
-        ensures above { above self.new ≡ above self.old }
-        ensures stack { Self.Transport.means self.new ≡ stacked (bottom self.new) (above self.new) };
+    /// Reading meets this code once no frame waits; 0 and 11 are read as none.
+    fn set_read_stop(&mut self, stop: Option<u32>)
+        ensures defined { bottom self.new ≡ stopping_reads (code_of stop) (bottom self.old) }
+        ensures above { above self.new ≡ above self.old };
 
-    /// Writing meets this code; 0 is none, and 11 is read as none.
-    fn set_write_stop(&mut self, code: u32)
-        ensures defined { bottom self.new ≡ stopping_writes code (bottom self.old) }
-        ensures above { above self.new ≡ above self.old }
-        ensures stack { Self.Transport.means self.new ≡ stacked (bottom self.new) (above self.new) };
+    /// Writing meets this code; 0 and 11 are read as none.
+    fn set_write_stop(&mut self, stop: Option<u32>)
+        ensures defined { bottom self.new ≡ stopping_writes (code_of stop) (bottom self.old) }
+        ensures above { above self.new ≡ above self.old };
+
+    // A law: what an end means is what lies at the bottom, and above it.
+    ghost stack: { (s : Self) → Self.Transport.means s ≡ stacked (bottom s) (above s) };
 }

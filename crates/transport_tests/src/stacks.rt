@@ -3,6 +3,7 @@
 use protocol::argument::{Argument, ArgumentType};
 use protocol::error::TransportFault;
 use protocol::id::ObjectId;
+use protocol::refusal::Refusal;
 use std::process::Abort;
 use std::test::Fail;
 use transport::buffered::BufferedEnd;
@@ -22,20 +23,14 @@ fn send<E: Transport>(end: &mut E, value: u32) -> Result<(), TransportFault> {
 }
 
 fn is_fault(r: Result<(), TransportFault>, layer: u32, code: u32) -> bool {
-    match r {
-        Ok(()) => false,
-        Err(fault) => fault.layer == layer && fault.code == code,
-    }
+    matches!(r, Err(fault) if fault.layer == layer && fault.code == code)
 }
 
 /// The number in the first frame at the bottom, which is then collected.
 fn collect_one<E: World>(end: &mut E) -> Option<u32> {
     let mut args = [Argument::Int(0); 20];
     let mut text = [0; 1024];
-    let Some(frame) = end.sent_at(0) else {
-        return None;
-    };
-    let _ = frame.read(&mut args, &mut text);
+    let _ = end.sent_at(0)?.read(&mut args, &mut text);
     end.collect(1);
     match args[0] {
         Argument::Uint(value) => Some(value),
@@ -87,7 +82,7 @@ fn a_stop_comes_through(rt: HostRuntime) -> Result<(), Fail> {
     let Ok(mut end) = BufferedEnd::new(list, 1) else {
         return Err(Fail::new("one frame is allowed"));
     };
-    end.set_write_stop(TransportFault::BROKEN_PIPE);
+    end.set_write_stop(Some(TransportFault::BROKEN_PIPE));
     assert!(rt; send(&mut end, 1).is_ok(), "the buffer has a place");
     assert!(rt; is_fault(send(&mut end, 2), 0, TransportFault::BROKEN_PIPE));
     assert!(rt; is_fault(end.flush(), 0, TransportFault::BROKEN_PIPE));
@@ -107,18 +102,14 @@ fn buffers_have_one_to_eight_frames(rt: HostRuntime) -> Result<(), Fail> {
     Ok(())
 }
 
-/// The number of arguments that a take writes, or none.
+/// What a take answers, given a text room that is large enough.
 fn taken<E: Transport>(
     end: &mut E,
     signature: &[ArgumentType],
     places: &mut [Argument<ObjectId>],
-) -> Option<usize> {
+) -> Result<usize, TakeError> {
     let mut text = [0; 1024];
-    match end.take(signature, places, &mut text) {
-        Ok(count) => Some(count),
-        Err(TakeError::Malformed) => None,
-        Err(TakeError::Refused(refusal)) => Some(100 + refusal.number() as usize),
-    }
+    end.take(signature, places, &mut text)
 }
 
 #[test]
@@ -130,7 +121,7 @@ fn a_frame_that_does_not_fit_waits(rt: HostRuntime) -> Result<(), Fail> {
     let mut few = [Argument::Int(0); 19];
     let args = [Argument::Uint(7)];
     assert!(rt;
-        taken(&mut list, &[ArgumentType::Uint], &mut places) == None,
+        taken(&mut list, &[ArgumentType::Uint], &mut places) == Err(TakeError::Malformed),
         "none waits"
     );
     match Outgoing::new(1, 0, &args, &[]) {
@@ -138,17 +129,21 @@ fn a_frame_that_does_not_fit_waits(rt: HostRuntime) -> Result<(), Fail> {
         Err(_) => return Err(Fail::new("one argument is allowed")),
     }
     assert!(rt;
-        taken(&mut list, &[ArgumentType::Int], &mut places) == None,
+        taken(&mut list, &[ArgumentType::Int], &mut places) == Err(TakeError::Malformed),
         "another kind"
     );
-    assert!(rt; taken(&mut list, &[], &mut places) == None, "another count");
     assert!(rt;
-        taken(&mut list, &[ArgumentType::Uint], &mut few) == Some(112),
+        taken(&mut list, &[], &mut places) == Err(TakeError::Malformed),
+        "another count"
+    );
+    assert!(rt;
+        taken(&mut list, &[ArgumentType::Uint], &mut few)
+            == Err(TakeError::Refused(Refusal::BadRoom)),
         "a small room"
     );
-    assert!(rt; taken(&mut list, &[ArgumentType::Uint], &mut places) == Some(1));
+    assert!(rt; taken(&mut list, &[ArgumentType::Uint], &mut places) == Ok(1));
     assert!(rt;
-        taken(&mut list, &[ArgumentType::Uint], &mut places) == None,
+        taken(&mut list, &[ArgumentType::Uint], &mut places) == Err(TakeError::Malformed),
         "it is gone"
     );
     Ok(())

@@ -1,12 +1,14 @@
-use Rattle.std.proofs.Common.{◌≡◌, ◌-◌, min, length, arith}
-use Rattle.transport.proofs.Rooms.{length-wanted, copied}
+use Rattle.std.proofs.Common.{◌≡◌, ◌-◌, min, length, take, drop, ap, arith, length-drop, length-take}
+use Rattle.transport.proofs.Rooms.{part_wanted, copied}
 use Rattle.transport.proofs.layout.copy_span.Goals as goal
 
 pub returns : goal.returns
 returns c =
-    let l : c.min-len.result ≡ min (min c.args.span.len (length c.args.text.now - c.min-start.result)) (1024 - c.args.at) = omega arith in
-    record {
-      fits = omega arith;
-      len = length-wanted c.args.text.now c.args.room.now _ c.args.span.start c.args.span.len (1024 - c.args.at) c.args.at c.min-start.result c.min-len.result c.min-start.ensures l c.copy_from_slice.ensures.after;
-      room = copied c.args.text.now c.args.room.now _ c.args.span.start c.args.span.len (1024 - c.args.at) c.args.at c.min-start.result c.min-len.result c.min-start.ensures l c.copy_from_slice.ensures.after;
-    }
+    let text = c.args.text.now in
+    let start = c.min.result in
+    let behind = take (length text - start) (drop start text) in
+    let size = length-take (length text - start) (drop start text) in
+    let more = length-drop start text in
+    let n : c.min-3.result ≡ min (min c.args.span.len (length text - start)) (1024 - c.args.at) = omega arith in
+    let part = part_wanted text c.args.span.start c.args.span.len (1024 - c.args.at) start c.min-3.result c.min.ensures n in
+    record { fits = omega (arith, length-take c.min-3.result behind); len = ap length part; room = copied c.args.at c.args.room.now _ _ _ c.copy_from_slice.ensures.after part }

@@ -1,12 +1,8 @@
-use Rattle.std.proofs.Common.{sym, ◌∙◌, arith}
-use Rattle.transport.proofs.Sending.{sendable_no, sendable_more, sendable-all}
+use Rattle.std.proofs.Common.{rules, tests, ◌∙◌}
+use Rattle.std.proofs.lemmas.Iterator.{YieldsList-from_slice}
+use Rattle.transport.proofs.Sending.{sendable_so}
 use Rattle.transport.proofs.outgoing.all_sendable.Goals as goal
 
-pub returns-in_default : goal.returns-in_default
-returns-in_default c = sym (c.loop-i.invariant ∙ sendable_no c.args.text.now c.args.args.now c.loop-i.i _ _ (omega arith) c.in_default.ensures)
-
-pub loop-i-preserved : goal.loop-i-preserved
-loop-i-preserved c = c.loop-i.invariant ∙ sendable_more c.args.text.now c.args.args.now c.loop-i.i _ _ (omega arith) _ c.in-Some.ensures
-
 pub returns : goal.returns
-returns c = sym (c.loop-i.invariant ∙ sendable-all c.args.text.now c.args.args.now c.loop-i.i _ (omega arith))
+returns c =
+    c.is_some.ensures ∙ sendable_so _ _ _ c.args.text.now (λ n x v q k. search (rules, tests)) (YieldsList-from_slice c.args.args.now cc) 1024 c.try_fold.result {u = c.try_fold.new.self} c.try_fold.ensures.ran

@@ -1,40 +1,22 @@
-use Rattle.std.proofs.lemmas.Result.{err_from_is_err_and}
-use Rattle.std.proofs.Common.{Ok, Err}
-use Rattle.transport.specs.Layers.{held_of}
-use Rattle.transport.proofs.Layers.{flush_layers, flush_kept, flush_answered, flush_grounded}
+use Rattle.std.proofs.Common.{rules, ◌≡◌}
+use Rattle.transport.specs.Layers.{held_of, Layers, flush_through}
+use Rattle.transport.proofs.Layers.{flush_over}
 use Rattle.transport.proofs.buffered.BufferedEndTransport.flush.Goals as goal
 
 pub returns-in_err-flush : goal.returns-in_err-flush
 returns-in_err-flush g c =
-    let p = err_from_is_err_and c.from_residual.result c.from_residual.ensures.1 in
-    let b = c.in_err-flush.ensures in
-    let w = c.pass-passed.ensures in
-    rw (p.1, p.2)
-    (record {
-      layers = flush_layers (Err c.in_err-flush.field-0.0) _ (g.E.Transport.means c.args.self.now.lower) _ _ (held_of c.args.self.now.held) _ w.passed b.same b.answer;
-      same = flush_kept (Err c.in_err-flush.field-0.0) _ (g.E.Transport.means c.args.self.now.lower) _ _ (held_of c.args.self.now.held) _ w.passed b.same b.answer;
-      answer = flush_answered (Err c.in_err-flush.field-0.0) _ (g.E.Transport.means c.args.self.now.lower) _ _ (held_of c.args.self.now.held) _ w.passed b.same b.answer;
-      grounded = flush_grounded _ (g.E.Transport.means c.args.self.now.lower) _ (held_of c.args.self.now.held) _ w.passed b.grounded w.places;
-    })
+    let e = g.E.Transport.means c.args.self.now.lower in
+    let q = held_of c.args.self.now.held in
+    let t : Layers = (c.from_residual.result, g.E.Transport.means c.flush.new.self, held_of c.pass-passed.new.held) in
+    let layers : t ≡ flush_through e q = search rules in
+    let over = flush_over t e q layers in
+    record { layers = layers; same = over.0; answer = over.1 }
 
-pub returns-in-Ok : goal.returns-in-Ok
-returns-in-Ok g c =
-    let b = c.in_ok-flush.ensures in
-    let w = c.in-Ok.ensures in
-    record {
-      layers = flush_layers (Ok tt) _ (g.E.Transport.means c.args.self.now.lower) _ _ (held_of c.args.self.now.held) _ w.passed b.same b.answer;
-      same = flush_kept (Ok tt) _ (g.E.Transport.means c.args.self.now.lower) _ _ (held_of c.args.self.now.held) _ w.passed b.same b.answer;
-      answer = flush_answered (Ok tt) _ (g.E.Transport.means c.args.self.now.lower) _ _ (held_of c.args.self.now.held) _ w.passed b.same b.answer;
-      grounded = flush_grounded _ (g.E.Transport.means c.args.self.now.lower) _ (held_of c.args.self.now.held) _ w.passed b.grounded w.places;
-    }
-
-pub returns-in-Err : goal.returns-in-Err
-returns-in-Err g c =
-    let b = c.in_ok-flush.ensures in
-    let w = c.in-Err.ensures in
-    record {
-      layers = flush_layers (Ok tt) _ (g.E.Transport.means c.args.self.now.lower) _ _ (held_of c.args.self.now.held) _ w.passed b.same b.answer;
-      same = flush_kept (Ok tt) _ (g.E.Transport.means c.args.self.now.lower) _ _ (held_of c.args.self.now.held) _ w.passed b.same b.answer;
-      answer = flush_answered (Ok tt) _ (g.E.Transport.means c.args.self.now.lower) _ _ (held_of c.args.self.now.held) _ w.passed b.same b.answer;
-      grounded = flush_grounded _ (g.E.Transport.means c.args.self.now.lower) _ (held_of c.args.self.now.held) _ w.passed b.grounded w.places;
-    }
+pub returns : goal.returns
+returns g c =
+    let e = g.E.Transport.means c.args.self.now.lower in
+    let q = held_of c.args.self.now.held in
+    let t : Layers = (c.map_err.result, g.E.Transport.means c.flush.new.self, held_of c.pass-passed.new.held) in
+    let layers : t ≡ flush_through e q = search rules in
+    let over = flush_over t e q layers in
+    record { layers = layers; same = over.0; answer = over.1 }
