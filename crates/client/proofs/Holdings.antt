@@ -1,11 +1,10 @@
 -- What rooms that hold the values of a frame tell of them.
-use Rattle.std.proofs.Common.{◌≡◌, ℕ, zero, suc, ◌+◌, true, false, eqb, List, [], ◌∷◌, ◌++◌, length, take, Some, None, Ok, refl, ap, ap₂, sym, ◌∙◌, length-append}
+use Rattle.std.proofs.Common.{◌≡◌, ℕ, zero, suc, ◌+◌, true, false, eqb, List, [], ◌∷◌, length, take, Some, None, Ok, refl, ap, ap₂, sym, ◌∙◌, length-append}
 use Rattle.std.proofs.lemmas.List.Sums.{sum_by-cons}
 use Rattle.std.proofs.lemmas.Bool.{cond-true, cond-false}
 use Rattle.std.specs.List.{slice_get}
 use Rattle.object_map.specs.Map.{Map, lookup}
 use Rattle.protocol.specs.declared.argument.Argument.{Argument}
-use Rattle.protocol.specs.declared.error.ErrorInterface.{ErrorInterface}
 use Rattle.protocol.specs.declared.error.ProtocolReason.TheVariants.{ErrorEvent}
 use Rattle.protocol.specs.declared.error.WaylandError.TheVariants.{Protocol}
 use Rattle.protocol.specs.declared.id.ObjectId.{ObjectId}

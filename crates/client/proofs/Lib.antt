@@ -6,6 +6,7 @@ pub mod Follows
 pub mod Holdings
 pub mod Nexts
 pub mod Passings
+pub mod Promise
 pub mod Reached
 pub mod Sendings
 pub mod Sends

@@ -1,13 +1,13 @@
 -- What an accepted request leaves, from what its steps in the code leave.
-use Rattle.std.proofs.Common.{◌≡◌, ℕ, Bool, true, false, cond, map, Ok, None, Some, Option, ap, sym, ◌∙◌}
+use Rattle.std.proofs.Common.{◌≡◌, ℕ, Bool, true, cond, Ok, None, Some, Option, ap, sym, ◌∙◌}
 use Rattle.std.proofs.lemmas.Bool.{cond-true}
 use Rattle.object_map.specs.Map.{Map, fits}
 use Rattle.protocol.specs.declared.id.ObjectId.{ObjectId}
 use Rattle.protocol.specs.declared.refusal.Refusal.TheVariants.{BadRoom}
-use Rattle.transport.specs.Drafts.{draft_of, with_child, spoken}
+use Rattle.transport.specs.Drafts.{with_child, spoken}
 use Rattle.transport.specs.Ends.{End, putting}
 use Rattle.transport.specs.declared.outgoing.Outgoing.{Outgoing}
-use Rattle.client.specs.Calls.{send_request, rooms_of, with_put, with_birth, child_handle, sending_it, sending_checked, defined}
+use Rattle.client.specs.Calls.{send_request, rooms_of, with_put, with_birth, child_handle, sending_checked, defined}
 use Rattle.client.specs.Coded.{request_of, Carries, outgoing_with}
 use Rattle.client.specs.Requests.{Table, Request, Sending, checked, frame_for, placing}
 use Rattle.client.specs.State.{Conn, Moment, next_serial, client_marked, changed_at, notice_of, none, sent, refuse}

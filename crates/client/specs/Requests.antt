@@ -1,5 +1,5 @@
 -- Requests: what is checked of one, in which order, and what is sent.
-use Rattle.std.specs.Prelude.{ℕ, ◌+◌, Bool, true, false, cond, not, ◌&&◌, List, [], ◌∷◌, map, length, Some, None, Ok, Err, Option, Result, ◌==◌, nat_lt}
+use Rattle.std.specs.Prelude.{ℕ, Bool, true, false, cond, not, ◌&&◌, List, [], ◌∷◌, map, Some, None, Ok, Err, Option, Result, ◌==◌, nat_lt}
 use Rattle.object_map.specs.Map.{Map, next_number, insert_new}
 use Rattle.object_map.specs.Store.{insert_free}
 use Rattle.protocol.specs.Arguments.{agrees}

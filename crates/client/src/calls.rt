@@ -13,7 +13,7 @@ ghost use Rattle.client.specs.Promise.{Stands};
 ghost use Rattle.client.specs.Requests.{Table};
 ghost use Rattle.client.specs.State.{moment_of, none, prepared, done, content, destroyed, informed};
 
-use crate::connection::{Connection, HandedEvent, Phase, ReadIntent, Round, WaitingRead};
+use crate::connection::{Connection, HandedEvent, ReadIntent, Round, WaitingRead};
 use crate::error::CallError;
 use crate::next::NextAnswer;
 use crate::object::{Notice, Object};
@@ -21,7 +21,6 @@ use crate::reads::{ReadAnswer, ResumeAnswer};
 use crate::requests::Request;
 use crate::sending::Sent;
 use crate::settling::Settled;
-use object_map::map::ObjectMap;
 use protocol::argument::Argument;
 use protocol::id::{ObjectId, ObjectInfo};
 use protocol::refusal::Refusal;
@@ -39,17 +38,7 @@ impl Connection {
         ensures defined { Created number client.old server.old result client.new server.new }
         ensures begins { Begins number client.old server.old result client.new server.new }
     {
-        let mut map = ObjectMap::new(client, server).map_err(|_| Refusal::BadRoom)?;
-        let _ = map.insert_at(client, server, 1, Object::DISPLAY);
-        Ok(Connection {
-            number,
-            map,
-            last_serial: 0,
-            last_error: None,
-            prepared_reads: 0,
-            read_serial: 0,
-            phase: Phase::Idle,
-        })
+        Connection::create(number, client, server)
     }
 
     /// Prepares a read. Refused in an open round, and where 65,535 are prepared.
@@ -61,10 +50,7 @@ impl Connection {
         ensures defined { (t : Table) (e : End) → Leaves (calls.defined t (moment_of self.old client.now server.now e) calls.prepare) (replied prepared result) (moment_of self.new client.now server.now e) none }
         ensures stands { (t : Table) (e : End) → Stands t calls.prepare (moment_of self.old client.now server.now e) (moment_of self.new client.now server.now e) }
     {
-        if !self.map.fits(client, server) {
-            return Err(Refusal::BadRoom);
-        }
-        self.prepare_read()
+        self.prepare_read(client, server)
     }
 
     /// Gives a prepared read up.
@@ -77,10 +63,7 @@ impl Connection {
         ensures defined { (t : Table) (e : End) → Leaves (calls.defined t (moment_of self.old client.now server.now e) (calls.cancel intent)) (replied_with (λ _. done) result) (moment_of self.new client.now server.now e) none }
         ensures stands { (t : Table) (e : End) → Stands t (calls.cancel intent) (moment_of self.old client.now server.now e) (moment_of self.new client.now server.now e) }
     {
-        if !self.map.fits(client, server) {
-            return Err((Refusal::BadRoom, intent));
-        }
-        self.cancel_read(intent)
+        self.cancel_read(client, server, intent)
     }
 
     /// Begins a prepared read: it waits while others are prepared, and else opens a round, unless a fault is stored.
@@ -93,10 +76,7 @@ impl Connection {
         ensures defined { (t : Table) (e : End) → Leaves (calls.defined t (moment_of self.old client.now server.now e) (calls.read intent)) (replied_with read_reply result) (moment_of self.new client.now server.now e) none }
         ensures stands { (t : Table) (e : End) → Stands t (calls.read intent) (moment_of self.old client.now server.now e) (moment_of self.new client.now server.now e) }
     {
-        if !self.map.fits(client, server) {
-            return Err((Refusal::BadRoom, intent));
-        }
-        self.begin_read(intent)
+        self.begin_read(client, server, intent)
     }
 
     /// Goes on with a read that waited: it waits until a round was over or the last other read was cancelled.
@@ -109,10 +89,7 @@ impl Connection {
         ensures defined { (t : Table) (e : End) → Leaves (calls.defined t (moment_of self.now client.now server.now e) (calls.resume waiting)) (replied resume_reply result) (moment_of self.now client.now server.now e) none }
         ensures stands { (t : Table) (e : End) → Stands t (calls.resume waiting) (moment_of self.now client.now server.now e) (moment_of self.now client.now server.now e) }
     {
-        if !self.map.fits(client, server) {
-            return Err(Refusal::BadRoom);
-        }
-        self.resume_read(waiting)
+        self.resume_read(client, server, waiting)
     }
 
     /// What comes next in an open round, into rooms of at least 20 arguments and 1,024 bytes each.

@@ -1,8 +1,12 @@
 //! A connection, and the tokens that its reads go by.
 
+ghost use Rattle.client.specs.Coded.{Created};
+
+use crate::object::Object;
 use object_map::map::ObjectMap;
 use protocol::error::WaylandError;
 use protocol::id::ObjectId;
+use protocol::refusal::Refusal;
 
 /// An event that was handed out and is not settled yet.
 #[derive(Clone, Copy)]
@@ -59,4 +63,27 @@ pub struct HandedEvent {
     pub(crate) connection: u32,
     pub(crate) number: u32,
     pub(crate) serial: u32,
+}
+
+impl Connection {
+    // A connection over two rooms that are emptied, but for the display at 1.
+    pub(crate) fn create(
+        number: u32,
+        client: &mut [Option<Object>],
+        server: &mut [Option<Object>],
+    ) -> Result<Connection, Refusal>
+        ensures { Created number client.old server.old result client.new server.new }
+    {
+        let mut map = ObjectMap::new(client, server).map_err(|_| Refusal::BadRoom)?;
+        let _ = map.insert_at(client, server, 1, Object::DISPLAY);
+        Ok(Connection {
+            number,
+            map,
+            last_serial: 0,
+            last_error: None,
+            prepared_reads: 0,
+            read_serial: 0,
+            phase: Phase::Idle,
+        })
+    }
 }

@@ -1,14 +1,15 @@
 //! Reads: prepared, cancelled, begun and resumed.
 
-ghost use Rattle.std.specs.Prelude.{◌≡◌, cond, List, Ok, Err, Option};
+ghost use Rattle.std.specs.Prelude.{◌≡◌, cond, Ok, Err};
 ghost use Rattle.protocol.specs.declared.refusal.Refusal.TheVariants.{BadToken};
 ghost use Rattle.transport.specs.Ends.{End};
-ghost use Rattle.client.specs.Calls.{preparing, holds_intent, one_less, cancelling, beginning, resuming};
+ghost use Rattle.client.specs.Calls.{prepare, cancel, read, resume, holds_intent, one_less, defined};
 ghost use Rattle.client.specs.Coded.{Leaves, replied, replied_with, read_reply, resume_reply, Becomes};
+ghost use Rattle.client.specs.Requests.{Table};
 ghost use Rattle.client.specs.State.{conn_of, moment_of, woken, none, prepared, done};
-ghost use Rattle.client.specs.declared.object.Object.{Object};
 
 use crate::connection::{Connection, Phase, ReadIntent, Round, WaitingRead};
+use crate::object::Object;
 use protocol::error::WaylandError;
 use protocol::refusal::Refusal;
 
@@ -35,9 +36,16 @@ pub enum ResumeAnswer {
 
 impl Connection {
     /// One read more is prepared, unless a round is open or 65,535 are.
-    pub(crate) fn prepare_read(&mut self) -> Result<ReadIntent, Refusal>
-        ensures { (c s : List (Option Object)) (e : End) → Leaves (preparing (moment_of self.old c s e)) (replied prepared result) (moment_of self.new c s e) none }
+    pub(crate) fn prepare_read(
+        &mut self,
+        client: &[Option<Object>],
+        server: &[Option<Object>],
+    ) -> Result<ReadIntent, Refusal>
+        ensures { (t : Table) (e : End) → Leaves (defined t (moment_of self.old client.now server.now e) prepare) (replied prepared result) (moment_of self.new client.now server.now e) none }
     {
+        if !self.map.fits(client, server) {
+            return Err(Refusal::BadRoom);
+        }
         if !matches!(self.phase, Phase::Idle) || self.prepared_reads == u16::MAX {
             return Err(Refusal::CannotPrepare);
         }
@@ -48,9 +56,17 @@ impl Connection {
     }
 
     /// Gives a prepared read up; after the last one those who wait go on.
-    pub(crate) fn cancel_read(&mut self, intent: ReadIntent) -> Result<(), (Refusal, ReadIntent)>
-        ensures { (c s : List (Option Object)) (e : End) → Leaves (cancelling (moment_of self.old c s e) intent) (replied_with (λ _. done) result) (moment_of self.new c s e) none }
+    pub(crate) fn cancel_read(
+        &mut self,
+        client: &[Option<Object>],
+        server: &[Option<Object>],
+        intent: ReadIntent,
+    ) -> Result<(), (Refusal, ReadIntent)>
+        ensures { (t : Table) (e : End) → Leaves (defined t (moment_of self.old client.now server.now e) (cancel intent)) (replied_with (λ _. done) result) (moment_of self.new client.now server.now e) none }
     {
+        if !self.map.fits(client, server) {
+            return Err((Refusal::BadRoom, intent));
+        }
         self.take_intent(intent)?;
         if self.prepared_reads == 0 {
             self.wake();
@@ -61,10 +77,15 @@ impl Connection {
     /// Begins a prepared read: it waits for the others, or opens a round.
     pub(crate) fn begin_read(
         &mut self,
+        client: &[Option<Object>],
+        server: &[Option<Object>],
         intent: ReadIntent,
     ) -> Result<ReadAnswer, (Refusal, ReadIntent)>
-        ensures { (c s : List (Option Object)) (e : End) → Leaves (beginning (moment_of self.old c s e) intent) (replied_with read_reply result) (moment_of self.new c s e) none }
+        ensures { (t : Table) (e : End) → Leaves (defined t (moment_of self.old client.now server.now e) (read intent)) (replied_with read_reply result) (moment_of self.new client.now server.now e) none }
     {
+        if !self.map.fits(client, server) {
+            return Err((Refusal::BadRoom, intent));
+        }
         self.take_intent(intent)?;
         if self.prepared_reads > 0 {
             return Ok(ReadAnswer::Waits(WaitingRead {
@@ -83,9 +104,17 @@ impl Connection {
     }
 
     /// Goes on with a read that waited, once the read serial has changed.
-    pub(crate) fn resume_read(&self, waiting: WaitingRead) -> Result<ResumeAnswer, Refusal>
-        ensures { (c s : List (Option Object)) (e : End) → Leaves (resuming (moment_of self.now c s e) waiting) (replied resume_reply result) (moment_of self.now c s e) none }
+    pub(crate) fn resume_read(
+        &self,
+        client: &[Option<Object>],
+        server: &[Option<Object>],
+        waiting: WaitingRead,
+    ) -> Result<ResumeAnswer, Refusal>
+        ensures { (t : Table) (e : End) → Leaves (defined t (moment_of self.now client.now server.now e) (resume waiting)) (replied resume_reply result) (moment_of self.now client.now server.now e) none }
     {
+        if !self.map.fits(client, server) {
+            return Err(Refusal::BadRoom);
+        }
         if waiting.connection != self.number {
             return Err(Refusal::BadToken);
         }

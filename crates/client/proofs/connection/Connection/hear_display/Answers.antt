@@ -1,4 +1,4 @@
-use Rattle.std.proofs.Common.{rules, ap, ◌≤◌, subst, sym, arith}
+use Rattle.std.proofs.Common.{rules, ap, ◌≤◌, subst, sym}
 use Rattle.object_map.specs.Map.{map_of}
 use Rattle.client.specs.State.{moment_of}
 use Rattle.client.proofs.Holdings.{held_lens, display_error, display_quiet}

@@ -1,0 +1,7 @@
+use Rattle.client.specs.Calls.{destroy_object}
+use Rattle.client.specs.State.{moment_of}
+use Rattle.client.proofs.Promise.{stands}
+use Rattle.client.proofs.connection.Connection.destroy_object.Goals as goal
+
+pub returns-clause-stands : goal.returns-clause-stands
+returns-clause-stands c = λ t e. stands t (destroy_object c.args.handle) (moment_of c.args.self.now c.args.client.now c.args.server.now e) (c.destroy.ensures t e)
