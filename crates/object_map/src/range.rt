@@ -15,6 +15,7 @@ pub(crate) struct Range {
     len: u16,
 }
 
+// That a room is short is asked of each method anew: it is a fact about what is lent, which no value here holds.
 impl Range {
     /// A range with nothing in use, over a room that it empties.
     pub(crate) fn new<R: Copy>(room: &mut [Option<R>]) -> Range
