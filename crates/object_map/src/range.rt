@@ -60,6 +60,7 @@ impl Range {
     pub(crate) fn vacate<R: Copy>(&self, room: &mut [Option<R>], index: usize)
         ensures { store_of room.new self.now.len ≡ vacate index (store_of room.old self.now.len) }
     {
+        // By index: after `get_mut` a proof knows nothing of the slots.
         if index < self.len as usize && index < room.len() {
             room[index] = None;
         }
