@@ -17,6 +17,7 @@ use crate::refusal::Refusal;
 pub const MAX_PLACES: usize = 65535;
 
 /// What the map remembers of its two ranges between calls.
+// The rooms are parameters of their own: a struct of both would be needed twice, shared and exclusive, and made at each call.
 #[derive(Clone, Copy, PartialEq, Eq, Debug)]
 pub struct ObjectMap {
     client: Range,

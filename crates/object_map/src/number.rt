@@ -14,6 +14,7 @@ pub enum Place {
 }
 
 /// The place that the number `id` names; 0 names none.
+// No `TryFrom`: each caller reads the lack of a place otherwise, and none wants an error type.
 pub fn place_of(id: u32) -> Option<Place>
     ensures { result ≡ place id }
 {

@@ -15,6 +15,7 @@ pub(crate) struct Range {
     len: u16,
 }
 
+// That a room is short is asked of each method anew: it is a fact about what is lent, which no value here holds.
 impl Range {
     /// A range with nothing in use, over a room that it empties.
     pub(crate) fn new<R: Copy>(room: &mut [Option<R>]) -> Range
@@ -59,6 +60,7 @@ impl Range {
     pub(crate) fn vacate<R: Copy>(&self, room: &mut [Option<R>], index: usize)
         ensures { store_of room.new self.now.len ≡ vacate index (store_of room.old self.now.len) }
     {
+        // By index: after `get_mut` a proof knows nothing of the slots.
         if index < self.len as usize && index < room.len() {
             room[index] = None;
         }

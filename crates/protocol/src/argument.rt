@@ -61,6 +61,7 @@ pub enum Argument<Id> {
 
 impl<Id: Copy> Argument<Id> {
     /// The kind of an argument; a string or an object counts as one that may be null.
+    // By name and no `From`: that a kind was lost, whether null is allowed, should be seen at the call.
     pub fn get_type(&self) -> ArgumentType
         ensures { result ≡ type_of self.now }
     {

@@ -39,7 +39,7 @@ impl ObjectId {
         }
     }
 
-    /// Whether this is the handle of no object.
+    /// Whether this is the handle of no object: 0 is the null of the wire itself.
     pub fn is_null(&self) -> bool
         ensures { result ≡ (self.now.number == 0) }
     {

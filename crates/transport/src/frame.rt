@@ -11,6 +11,7 @@ use protocol::id::ObjectId;
 use protocol::refusal::Refusal;
 
 /// A place for one message.
+// Arrays of fixed length and a count: nothing allocates, and a frame is written where it lies.
 #[derive(Clone, Copy)]
 pub struct Frame {
     sender: u32,

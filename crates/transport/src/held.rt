@@ -12,6 +12,7 @@ use std::marker::Model;
 pub const MAX_HELD: usize = 8;
 
 /// A queue in places of its own, of which the first 1 to 8 are in use.
+// Fixed places: nothing allocates, and a frame that is held is written where it lies.
 #[derive(Drop)]
 pub struct Held {
     places: [Frame; 8],

@@ -37,6 +37,8 @@ fn raw_handle(number: u32) -> ObjectId
     }
 }
 
+// What is asked of the lent rooms stands in each contract here: a struct of both was tried, and a layer that passes it on
+// loses what they hold.
 // Copies as much of a span as a text of `MAX_TEXT` bytes has left behind `at`.
 fn copy_span(text: &[u8], span: Span, room: &mut [u8], at: usize) -> usize
     requires room { 1024 ≤ length room.old }

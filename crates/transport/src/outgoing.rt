@@ -15,6 +15,7 @@ use protocol::refusal::Refusal;
 pub struct Outgoing<'a> {
     pub(crate) sender: u32,
     pub(crate) opcode: u16,
+    // What a null new object stands for; 0, the null of the wire, where there is none: an `Option` would name that twice.
     pub(crate) child: u32,
     pub(crate) args: &'a [Argument<ObjectId>],
     pub(crate) text: &'a [u8],

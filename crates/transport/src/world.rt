@@ -38,6 +38,7 @@ pub trait World: Transport {
     fn sent_at(&self, i: usize) -> Option<&Frame>
         ensures { option_map (λ f. frame_of f.now) result ≡ slice_get (bottom self.now).outgoing.frames i };
 
+    // Two calls, as sockets have them for reading and for writing: a parameter for the direction would be no plainer.
     /// Reading meets this code once no frame waits; 0 and 11 are read as none.
     fn set_read_stop(&mut self, stop: Option<u32>)
         ensures defined { bottom self.new ≡ stopping_reads (code_of stop) (bottom self.old) }
