@@ -314,18 +314,21 @@ impl Connection {
         if !lent {
             return Err((Refusal::BadRoom, round));
         }
-        let Phase::Reading(settled) = self.phase else {
-            return Err((Refusal::BadToken, round));
-        };
         if round.connection != self.number {
             return Err((Refusal::BadToken, round));
         }
-        let Round { connection: _ } = round;
-        Ok(match end.first() {
-            Ok((sender, opcode)) => self.hear(
-                table, client, server, end, settled, sender, opcode, args, text, fault_text,
-            ),
-            Err(fault) => self.rest(settled, fault),
-        })
+        match (self.phase, end.first()) {
+            (Phase::Reading(settled), Ok((sender, opcode))) => {
+                let Round { connection: _ } = round;
+                Ok(self.hear(
+                    table, client, server, end, settled, sender, opcode, args, text, fault_text,
+                ))
+            }
+            (Phase::Reading(settled), Err(fault)) => {
+                let Round { connection: _ } = round;
+                Ok(self.rest(settled, fault))
+            }
+            (Phase::Idle | Phase::Handed(_, _), _) => Err((Refusal::BadToken, round)),
+        }
     }
 }
