@@ -3,11 +3,11 @@
 use protocol::id::ObjectId;
 
 /// What a slot holds: an object of the connection.
-#[derive(Clone, Copy)]
+#[derive(Clone, Copy, PartialEq, Eq, Debug)]
 pub struct Object {
     pub(crate) interface: u16,
     pub(crate) version: u32,
-    /// The number that the object's user knows it by; 0 is none, as in every call that takes or answers one.
+    /// The number that the object's user knows it by; 0 is none, and is refused where one is wanted.
     pub(crate) data: u64,
     /// Tells the object from others that had its number.
     pub(crate) serial: u32,
@@ -25,7 +25,7 @@ pub struct Notice {
 }
 
 /// What a request asks its new object to be.
-#[derive(Clone, Copy)]
+#[derive(Clone, Copy, PartialEq, Eq, Debug)]
 pub struct ChildSpec {
     pub interface: u16,
     pub version: u32,
