@@ -13,7 +13,7 @@ use protocol::id::ObjectId;
 pub struct Object {
     pub(crate) interface: u16,
     pub(crate) version: u32,
-    /// The number that the object's user knows it by; 0 is none, as in every call that takes or answers one.
+    /// The number that the object's user knows it by; 0 is none, and is refused where one is wanted.
     pub(crate) data: u64,
     /// Tells the object from others that had its number.
     pub(crate) serial: u32,

@@ -1,7 +1,7 @@
 //! The map by number: four lengths, over two rooms of slots that are lent to each call.
 //!
 //! Every call says by one definition what it answers and what it leaves (`defined`), what that comes to for a reader of
-//! the map (`puts`, `empties`, `changes`), and what holds of every run that the call goes on (`stands`).
+//! the map (`puts`, `empties`), and what holds of every run that the call goes on (`stands`); `update` has all three in one.
 
 mod calls;
 

@@ -15,7 +15,8 @@ pub(crate) struct Range {
     len: u16,
 }
 
-// That a room is short is asked of each method anew: it is a fact about what is lent, which no value here holds.
+// That a room is short is asked of each method anew, a fact about what is lent; and each says that `places` stays, a fact
+// about two values: no type here can hold either.
 impl Range {
     /// A range with nothing in use, over a room that it empties.
     pub(crate) fn new<R: Copy>(room: &mut [Option<R>]) -> Range
@@ -42,14 +43,14 @@ impl Range {
         ensures answer { result ≡ (length room.now == self.now.places) }
         ensures few { self.now.places < 2 ^ 16 }
     {
-        room.len() == self.places as usize
+        room.len() == usize::from(self.places)
     }
 
     /// The record at `index`.
     pub(crate) fn find<R: Copy>(&self, room: &[Option<R>], index: usize) -> Option<R>
         ensures { result ≡ at index (store_of room.now self.now.len) }
     {
-        if index < self.len as usize {
+        if index < usize::from(self.len) {
             room.get(index).copied().flatten()
         } else {
             None
@@ -61,7 +62,7 @@ impl Range {
         ensures { store_of room.new self.now.len ≡ vacate index (store_of room.old self.now.len) }
     {
         // By index: after `get_mut` a proof knows nothing of the slots.
-        if index < self.len as usize && index < room.len() {
+        if index < usize::from(self.len) && index < room.len() {
             room[index] = None;
         }
     }
@@ -77,7 +78,7 @@ impl Range {
         ensures places { self.new.places ≡ self.old.places }
         ensures defined { (result, store_of room.new self.new.len) ≡ insert «record» index (store_of room.old self.old.len) }
     {
-        if index > self.len as usize {
+        if index > usize::from(self.len) {
             return Err(Refusal::Gap);
         }
         if index >= room.len() {
@@ -128,7 +129,7 @@ impl Range {
     pub(crate) fn first_free<R: Copy>(&self, room: &[Option<R>]) -> usize
         ensures { result ≡ first_free (store_of room.now self.now.len) }
     {
-        // The search stops at the first empty place: a loop that yields the index by break.
+        // A loop that yields the index by break: a form that this project asks for here.
         let mut index = 0;
         loop {
             if self.find(room, index).is_none() {

@@ -6,7 +6,7 @@ use Rattle.panes.specs.declared.pane.Pane.{Pane}
 use Rattle.panes.specs.declared.table.Answer.{Answer}
 use Rattle.panes.specs.declared.table.Answer.TheVariants.{Opened, Shown, Resized, Closed, Listed}
 
--- the answers so far, newest first; a refused command has none
+-- the answers so far, newest first; a refused command has its refusal
 abbrev pub Answers : Type 0
 Answers = List (Result Answer Refusal)
 

@@ -6,7 +6,7 @@ ghost use Rattle.panes.specs.Lines.{word, rest, pushed, number_of, object_of, pa
 use super::pane::Pane;
 
 /// What a line asks for.
-#[derive(Clone, Copy)]
+#[derive(Clone, Copy, PartialEq, Eq, Debug)]
 pub enum Command {
     Open(Pane),
     Show(u32),

@@ -15,7 +15,7 @@ use std::fmt;
 use std::marker::Model;
 
 /// What a command did.
-#[derive(Clone, Copy)]
+#[derive(Clone, Copy, PartialEq, Eq, Debug)]
 pub enum Answer {
     Opened(u32, Pane),
     Shown(u32, Pane),
@@ -98,7 +98,7 @@ impl<'a> PaneTable<'a> {
     fn count_open(&self) -> usize
         ensures { result ≡ occupied_in self.now.client }
     {
-        let used = self.map.client_len() as usize;
+        let used = usize::from(self.map.client_len());
         let slots = self.panes.iter().take(used);
         slots.filter(|slot| slot.is_some()).count()
     }

@@ -59,7 +59,7 @@ impl InterfaceTable<'_> {
 }
 
 /// What an object is: its number on the wire, its interface and its version.
-#[derive(Clone, Copy, Debug)]
+#[derive(Clone, Copy, PartialEq, Eq, Debug)]
 pub struct ObjectInfo {
     pub id: u32,
     pub interface: u16,

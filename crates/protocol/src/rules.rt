@@ -74,11 +74,11 @@ impl MessageDesc<'_> {
         ensures { result ≡ inside count (message_of self.now) }
     {
         self.child_interface
-            .is_none_or(|child| (child as usize) < count)
+            .is_none_or(|child| usize::from(child) < count)
             && self
                 .arg_interfaces
                 .iter()
-                .all(|arg| (*arg as usize) < count)
+                .all(|arg| usize::from(*arg) < count)
     }
 
     /// All that is asked of a request in a table of `count`.

@@ -13,7 +13,7 @@ use crate::refusal::Refusal;
 use crate::rules::well_formed;
 
 /// The interfaces of a protocol, known to keep the rules.
-#[derive(Clone, Copy)]
+#[derive(Clone, Copy, PartialEq, Eq, Debug)]
 pub struct InterfaceTable<'a> {
     interfaces: &'a [Interface<'a>],
 }
@@ -36,7 +36,7 @@ impl<'a> InterfaceTable<'a> {
     pub fn contains(&self, number: u16) -> bool
         ensures { result ≡ in_table (table_of self.now) number }
     {
-        (number as usize) < self.interfaces.len()
+        usize::from(number) < self.interfaces.len()
     }
 
     /// An interface by its number. A number outside the table is read as `<anonymous>`.
@@ -44,8 +44,8 @@ impl<'a> InterfaceTable<'a> {
         ensures { description_of result ≡ interface_at (table_of self.now) number }
     {
         self.interfaces
-            .get(number as usize)
-            .or(self.interfaces.get(ANONYMOUS as usize))
+            .get(usize::from(number))
+            .or(self.interfaces.get(usize::from(ANONYMOUS)))
             .copied()
             .unwrap_or(ANONYMOUS_INTERFACE)
     }
@@ -63,7 +63,7 @@ impl<'a> InterfaceTable<'a> {
     {
         self.interface(interface)
             .requests
-            .get(opcode as usize)
+            .get(usize::from(opcode))
             .copied()
     }
 
@@ -73,7 +73,7 @@ impl<'a> InterfaceTable<'a> {
     {
         self.interface(interface)
             .events
-            .get(opcode as usize)
+            .get(usize::from(opcode))
             .copied()
     }
 

@@ -32,7 +32,7 @@ impl Arrived {
     }
 }
 
-/// Puts a frame that carries one number.
+/// Puts a frame that carries one number. The tests of the transport have the same: a program exports nothing.
 fn send<E: Transport>(end: &mut E, value: u32) -> Result<(), TransportFault> {
     let args = [Argument::Uint(value)];
     match Outgoing::new(1, 0, &args, &[]) {

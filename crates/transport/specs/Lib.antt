@@ -11,3 +11,4 @@ pub mod Layers
 pub mod Laws
 pub mod Grounds
 pub mod Stacks
+pub mod Texts

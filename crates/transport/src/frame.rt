@@ -1,7 +1,8 @@
 //! A frame: a message in a place of fixed size, written only as far as it is used.
 
-ghost use Rattle.std.specs.Prelude.{◌≡◌, ◌≤◌, [], length};
+ghost use Rattle.std.specs.Prelude.{◌≡◌, ◌≤◌, [], Some, length};
 ghost use Rattle.transport.specs.Layout.{arg_of};
+ghost use Rattle.transport.specs.Texts.{take_text};
 ghost use Rattle.transport.specs.Signatures.{takes, kind_of, fits_raw};
 
 use crate::layout::{check_rooms, lay};
@@ -9,6 +10,7 @@ use crate::outgoing::Outgoing;
 use protocol::argument::{AllowNull, Argument, ArgumentType};
 use protocol::id::ObjectId;
 use protocol::refusal::Refusal;
+use std::fmt;
 
 /// A place for one message.
 // Arrays of fixed length and a count: nothing allocates, and a frame is written where it lies.
@@ -30,6 +32,19 @@ pub enum TakeError {
     /// A room is too small for a frame.
     Refused(Refusal),
 }
+
+impl fmt::Display for TakeError {
+    ghost output = { λ e. Some (take_text e) };
+
+    fn fmt<W: fmt::Write>(&self, f: &mut fmt::Formatter<W>) -> fmt::Result {
+        match *self {
+            TakeError::Malformed => f.pad("malformed frame"),
+            TakeError::Refused(why) => write!(f, "refused: {why}"),
+        }
+    }
+}
+
+impl std::error::Error for TakeError {}
 
 impl From<Refusal> for TakeError {
     ghost use Rattle.transport.specs.declared.frame.TakeError.TheVariants.{Refused};
@@ -118,18 +133,11 @@ impl Frame {
 fn accepts(kind: ArgumentType, arg: Argument<ObjectId>) -> bool
     ensures { result ≡ takes kind (kind_of (arg_of [] arg)) }
 {
-    matches!(
-        (kind, arg),
-        (ArgumentType::Int, Argument::Int(_))
-            | (ArgumentType::Uint, Argument::Uint(_))
-            | (ArgumentType::Fixed, Argument::Fixed(_))
-            | (ArgumentType::Str(AllowNull::Yes), Argument::Str(_))
-            | (ArgumentType::Str(AllowNull::No), Argument::Str(Some(_)))
-            | (ArgumentType::Object(_), Argument::Object(_))
-            | (ArgumentType::NewId, Argument::NewId(_))
-            | (ArgumentType::Array, Argument::Array(_))
-            | (ArgumentType::Fd, Argument::Fd(_))
-    )
+    kind.same_type(arg.get_type())
+        && !matches!(
+            (kind, arg),
+            (ArgumentType::Str(AllowNull::No), Argument::Str(None))
+        )
 }
 
 fn accepts_all(signature: &[ArgumentType], args: &[Argument<ObjectId>]) -> bool

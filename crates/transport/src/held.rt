@@ -49,6 +49,7 @@ impl Held {
     }
 
     /// Keeps a message behind the others, where there is a place.
+    // A yes or no: what is full has nothing more to say.
     pub fn push(&mut self, message: &Outgoing<'_>) -> bool
         ensures { (result, held_of self.new) ≡ pushing (outgoing_of message.now) (held_of self.old) }
     {

@@ -7,7 +7,6 @@ ghost use Rattle.transport.specs.Frames.{roomy};
 ghost use Rattle.transport.specs.Layout.{arg_of, args_of, raw, spanned, overwritten, lay_one, lay_into};
 
 use protocol::argument::{Argument, Span};
-use protocol::core_interfaces::ANONYMOUS;
 use protocol::id::ObjectId;
 use protocol::refusal::Refusal;
 
@@ -32,13 +31,13 @@ fn raw_handle(number: u32) -> ObjectId
 {
     ObjectId {
         number,
-        serial: 0,
-        interface: ANONYMOUS,
+        ..ObjectId::null()
     }
 }
 
 // What is asked of the lent rooms stands in each contract here: a struct of both was tried, and a layer that passes it on
-// loses what they hold.
+// loses what they hold. (Arrays of the least lengths were tried too: the goals of the callers stayed open.)
+
 // Copies as much of a span as a text of `MAX_TEXT` bytes has left behind `at`.
 fn copy_span(text: &[u8], span: Span, room: &mut [u8], at: usize) -> usize
     requires room { 1024 ≤ length room.old }

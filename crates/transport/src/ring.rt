@@ -12,7 +12,7 @@ use crate::outgoing::Outgoing;
 
 /// Where the first frame lies in the room, and how many there are. The room is lent to each call.
 // Two numbers beside a room: nothing allocates, and one ring serves rooms that are lent and places that are owned.
-#[derive(Clone, Copy)]
+#[derive(Clone, Copy, PartialEq, Eq, Debug)]
 pub struct Ring {
     head: usize,
     count: usize,
@@ -38,7 +38,7 @@ impl Ring {
     }
 
     /// Writes a message behind the others, where there is a place.
-    // A yes or no, here and above: a room that is full has nothing more to say.
+    // A yes or no: a room that is full has nothing more to say.
     pub fn push(&mut self, room: &mut [Frame], message: &Outgoing<'_>) -> bool
         ensures { (result, queue_of self.new room.new) ≡ pushing (outgoing_of message.now) (queue_of self.old room.old) }
     {

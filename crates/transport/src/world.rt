@@ -14,12 +14,14 @@ use crate::outgoing::Outgoing;
 use crate::transport::Transport;
 
 /// A stack of ends over a list end. The world changes the list end alone: what is held above it stays.
+// Each call says so (`above`), since a law speaks of one value and not of two.
 pub trait World: Transport {
     ghost bottom: { Self → Listed };
 
     ghost above: { Self → List Queue };
 
     /// A message arrives, and waits behind the others; false where there is no place for it.
+    // A yes or no: a room that is full has nothing more to say.
     fn deliver(&mut self, message: &Outgoing<'_>) -> bool
         ensures defined { (result, bottom self.new) ≡ delivering (outgoing_of message.now) (bottom self.old) }
         ensures above { above self.new ≡ above self.old };

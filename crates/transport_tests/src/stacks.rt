@@ -13,7 +13,7 @@ use transport::outgoing::Outgoing;
 use transport::transport::Transport;
 use transport::world::World;
 
-/// Puts a frame with one number. (A program has the same: it exports nothing.)
+/// Puts a frame with one number. `relay` has the same: a program exports nothing that a test could call.
 fn send<E: Transport>(end: &mut E, value: u32) -> Result<(), TransportFault> {
     let args = [Argument::Uint(value)];
     match Outgoing::new(1, 0, &args, &[]) {

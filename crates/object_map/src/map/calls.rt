@@ -1,4 +1,6 @@
 //! The work of the calls, each held to its definition.
+//!
+//! Functions beside the public methods and not methods: each has one clause, from which the method derives its laws.
 
 ghost use Rattle.std.specs.Prelude.{◌≡◌, ◌^◌, ◌<◌, length, OnOk};
 ghost use Rattle.object_map.specs.Map.{map_of, creation, lent, nexting, finding, removing, inserting_at, inserting_new};
