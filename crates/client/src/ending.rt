@@ -20,7 +20,9 @@ impl Connection {
             read_serial: _,
             phase: _,
         } = self;
-        Ended { _connection: number }
+        Ended {
+            _connection: number,
+        }
     }
 }
 
