@@ -1,5 +1,9 @@
 //! The handles that a script was told, by their names.
 
+ghost use Rattle.std.specs.Prelude.{◌≡◌, ◌≢◌, ◌<◌, ℕ, IfOk, Ok, Some, [], ◌∷◌, vec_len};
+ghost use Rattle.std.specs.List.{slice_get};
+ghost use Rattle.protocol.specs.Lookups.{null_id, display_id};
+
 use crate::message::{HandleName, Message, object_of, renamed};
 use protocol::argument::Argument;
 use protocol::id::ObjectId;
@@ -12,15 +16,21 @@ pub struct Handles {
 }
 
 impl Handles {
-    pub fn new(alloc: Global) -> Result<Handles, AllocError> {
+    pub fn new(alloc: Global) -> Result<Handles, AllocError>
+        ensures { IfOk result (λ handles. handles.told.items ≡ null_id ∷ display_id ∷ []) }
+    {
         let mut told = Vec::new(alloc);
         told.push(ObjectId::null())?;
         told.push(ObjectId::display())?;
         Ok(Handles { told })
     }
 
-    /// A name for a handle that is printed; null keeps its own.
-    pub fn name(&mut self, id: ObjectId) -> Result<HandleName, AllocError> {
+    /// A name for a handle that is printed; null keeps its own. Names that were given keep their handles.
+    pub fn name(&mut self, id: ObjectId) -> Result<HandleName, AllocError>
+        ensures null { id.number ≡ 0 → result ≡ Ok HandleName.NULL }
+        ensures named { IfOk result (λ name. id.number ≢ 0 → slice_get self.new.told.items name.0 ≡ Some id) }
+        ensures kept { (k : ℕ) → k < vec_len self.old.told → slice_get self.new.told.items k ≡ slice_get self.old.told.items k }
+    {
         if id.is_null() {
             return Ok(HandleName::NULL);
         }
@@ -29,7 +39,9 @@ impl Handles {
         Ok(name)
     }
 
-    pub fn find(&self, name: HandleName) -> Option<ObjectId> {
+    pub fn find(&self, name: HandleName) -> Option<ObjectId>
+        ensures { result ≡ slice_get self.now.told.items name.0 }
+    {
         self.told.get(name.0).copied()
     }
 
