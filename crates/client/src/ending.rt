@@ -1,16 +1,20 @@
 //! The end of a connection. Tokens are not dropped: each is spent by a call, or ends after its connection.
 
+ghost use Rattle.std.specs.Prelude.{◌≡◌};
+
 use crate::connection::{Connection, HandedEvent, ReadIntent, Round};
 
-/// Tells that a connection has ended.
+/// Tells that the connection of a number has ended. Only `Connection::end` makes one, and it takes the connection.
 #[derive(Clone, Copy)]
 pub struct Ended {
-    _connection: u32,
+    connection: u32,
 }
 
 impl Connection {
     /// Ends the connection, in whatever phase it is.
-    pub fn end(self) -> Ended {
+    pub fn end(self) -> Ended
+        ensures { result.connection ≡ self.number }
+    {
         let Connection {
             number,
             map: _,
@@ -20,9 +24,7 @@ impl Connection {
             read_serial: _,
             phase: _,
         } = self;
-        Ended {
-            _connection: number,
-        }
+        Ended { connection: number }
     }
 }
 
