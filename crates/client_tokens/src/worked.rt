@@ -3,16 +3,16 @@
 //! A connection is never let go, and neither is a round: so each test holds what it was given to its end, which is a panic
 //! of its own.
 
-use crate::{Frames, Held, Lent, Turn, ask, change_mind, send_sync, take_turn};
-use client::connection::{Connection, HandedEvent, ReadIntent, Round, WaitingRead};
+use crate::{Frames, Lent, Turn, ask, change_mind, send_sync, take_turn};
+use client::connection::{Connection, HandedEvent, ReadIntent, Round};
 use client::error::CallError;
 use client::next::NextAnswer;
 use client::object::Object;
 use client::reads::{ReadAnswer, ResumeAnswer};
 use client::settling::Settled;
-use protocol::argument::{Argument, ArgumentType};
+use protocol::argument::Argument;
 use protocol::core_interfaces::core_interfaces;
-use protocol::error::{ProtocolReason, TransportFault, WaylandError};
+use protocol::error::{ProtocolReason, WaylandError};
 use protocol::id::ObjectId;
 use protocol::refusal::Refusal;
 use protocol::table::InterfaceTable;
