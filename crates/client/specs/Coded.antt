@@ -51,6 +51,11 @@ abbrev pub replied_with : {A B : Type 0} → (A → Reply) → Result A (Refusal
 replied_with f (Ok x) = Ok (f x)
 replied_with f (Err p) = Err p.0
 
+-- and that token is this one
+abbrev pub GivesBack : {A B : Type 0} → B → Result A (Refusal × B) → Type 0
+GivesBack x (Ok _) = Unit {0}
+GivesBack x (Err p) = p.1 ≡ x
+
 -- this is what is left
 abbrev pub Leaves : Left → Result Reply Refusal → Moment → Rooms → Type 0
 Leaves x a m r = x ≡ record { answer = a; moment = m; rooms = r }

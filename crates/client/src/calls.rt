@@ -8,7 +8,7 @@ ghost use Rattle.std.specs.Prelude.{◌≡◌, List};
 ghost use Rattle.protocol.specs.Lookups.{table_of};
 ghost use Rattle.transport.specs.Ends.{End};
 ghost use Rattle.client.specs.Calls as calls;
-ghost use Rattle.client.specs.Coded.{Leaves, replied, replied_with, read_reply, resume_reply, settled_reply, sent_reply, next_reply, flush_reply, request_of, rooms_in, Created, Begins};
+ghost use Rattle.client.specs.Coded.{Leaves, replied, replied_with, GivesBack, read_reply, resume_reply, settled_reply, sent_reply, next_reply, flush_reply, request_of, rooms_in, Created, Begins};
 ghost use Rattle.client.specs.Promise.{Stands};
 ghost use Rattle.client.specs.Requests.{Table};
 ghost use Rattle.client.specs.State.{moment_of, none, prepared, done, content, destroyed, informed};
@@ -61,6 +61,7 @@ impl Connection {
         intent: ReadIntent,
     ) -> Result<(), (Refusal, ReadIntent)>
         ensures defined { (t : Table) (e : End) → Leaves (calls.defined t (moment_of self.old client.now server.now e) (calls.cancel intent)) (replied_with (λ _. done) result) (moment_of self.new client.now server.now e) none }
+        ensures back { GivesBack intent result }
         ensures stands { (t : Table) (e : End) → Stands t (calls.cancel intent) (moment_of self.old client.now server.now e) (moment_of self.new client.now server.now e) }
     {
         self.cancel_read(client, server, intent)
@@ -74,6 +75,7 @@ impl Connection {
         intent: ReadIntent,
     ) -> Result<ReadAnswer, (Refusal, ReadIntent)>
         ensures defined { (t : Table) (e : End) → Leaves (calls.defined t (moment_of self.old client.now server.now e) (calls.read intent)) (replied_with read_reply result) (moment_of self.new client.now server.now e) none }
+        ensures back { GivesBack intent result }
         ensures stands { (t : Table) (e : End) → Stands t (calls.read intent) (moment_of self.old client.now server.now e) (moment_of self.new client.now server.now e) }
     {
         self.begin_read(client, server, intent)
@@ -105,6 +107,7 @@ impl Connection {
         fault_text: &mut [u8],
     ) -> Result<NextAnswer, (Refusal, Round)>
         ensures defined { Leaves (calls.defined (table_of table.now) (moment_of self.old client.old server.old (E.Transport.means end.old)) (calls.next round (rooms_in args.old text.old fault_text.old))) (replied_with next_reply result) (moment_of self.new client.new server.new (E.Transport.means end.new)) (rooms_in args.new text.new fault_text.new) }
+        ensures back { GivesBack round result }
         ensures stands { Stands (table_of table.now) (calls.next round (rooms_in args.old text.old fault_text.old)) (moment_of self.old client.old server.old (E.Transport.means end.old)) (moment_of self.new client.new server.new (E.Transport.means end.new)) }
     {
         self.next_event(table, client, server, end, round, args, text, fault_text)
@@ -119,6 +122,7 @@ impl Connection {
         data: u64,
     ) -> Result<Settled, (Refusal, HandedEvent)>
         ensures defined { (t : Table) (e : End) → Leaves (calls.defined t (moment_of self.old client.old server.old e) (calls.settle event «data»)) (replied_with settled_reply result) (moment_of self.new client.new server.new e) none }
+        ensures back { GivesBack event result }
         ensures stands { (t : Table) (e : End) → Stands t (calls.settle event «data») (moment_of self.old client.old server.old e) (moment_of self.new client.new server.new e) }
     {
         self.settle_event(client, server, event, data)

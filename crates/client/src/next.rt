@@ -11,7 +11,7 @@ ghost use Rattle.transport.specs.Layout.{written};
 ghost use Rattle.transport.specs.Wire.{Arg};
 ghost use Rattle.client.specs.Events.{pass_all};
 ghost use Rattle.client.specs.Calls.{ended, breach, acknowledged, resting, from_display, passing, passed_into, sent_by, next, defined};
-ghost use Rattle.client.specs.Coded.{Leaves, replied_with, next_reply, Becomes, over_fault, text_lens, number_given, error_given, TakesAs, Holding, rooms_in};
+ghost use Rattle.client.specs.Coded.{Leaves, replied_with, GivesBack, next_reply, Becomes, over_fault, text_lens, number_given, error_given, TakesAs, Holding, rooms_in};
 ghost use Rattle.client.specs.declared.object.Object.{Object};
 ghost use Rattle.client.specs.State.{Rooms, moment_of, conn_of, seen_in, with_fault};
 
@@ -305,7 +305,8 @@ impl Connection {
         text: &mut [u8],
         fault_text: &mut [u8],
     ) -> Result<NextAnswer, (Refusal, Round)>
-        ensures { Leaves (defined (table_of table.now) (moment_of self.old client.old server.old (E.Transport.means end.old)) (next round (rooms_in args.old text.old fault_text.old))) (replied_with next_reply result) (moment_of self.new client.new server.new (E.Transport.means end.new)) (rooms_in args.new text.new fault_text.new) }
+        ensures defined { Leaves (defined (table_of table.now) (moment_of self.old client.old server.old (E.Transport.means end.old)) (next round (rooms_in args.old text.old fault_text.old))) (replied_with next_reply result) (moment_of self.new client.new server.new (E.Transport.means end.new)) (rooms_in args.new text.new fault_text.new) }
+        ensures back { GivesBack round result }
     {
         let lent = self.map.fits(client, server)
             && args.len() >= MAX_ARGS

@@ -4,7 +4,7 @@ ghost use Rattle.std.specs.Prelude.{◌≡◌, cond, Ok, Err};
 ghost use Rattle.protocol.specs.declared.refusal.Refusal.TheVariants.{BadToken};
 ghost use Rattle.transport.specs.Ends.{End};
 ghost use Rattle.client.specs.Calls.{prepare, cancel, read, resume, holds_intent, one_less, defined};
-ghost use Rattle.client.specs.Coded.{Leaves, replied, replied_with, read_reply, resume_reply, Becomes};
+ghost use Rattle.client.specs.Coded.{Leaves, replied, replied_with, GivesBack, read_reply, resume_reply, Becomes};
 ghost use Rattle.client.specs.Requests.{Table};
 ghost use Rattle.client.specs.State.{conn_of, moment_of, woken, none, prepared, done};
 
@@ -62,7 +62,8 @@ impl Connection {
         server: &[Option<Object>],
         intent: ReadIntent,
     ) -> Result<(), (Refusal, ReadIntent)>
-        ensures { (t : Table) (e : End) → Leaves (defined t (moment_of self.old client.now server.now e) (cancel intent)) (replied_with (λ _. done) result) (moment_of self.new client.now server.now e) none }
+        ensures defined { (t : Table) (e : End) → Leaves (defined t (moment_of self.old client.now server.now e) (cancel intent)) (replied_with (λ _. done) result) (moment_of self.new client.now server.now e) none }
+        ensures back { GivesBack intent result }
     {
         if !self.map.fits(client, server) {
             return Err((Refusal::BadRoom, intent));
@@ -81,7 +82,8 @@ impl Connection {
         server: &[Option<Object>],
         intent: ReadIntent,
     ) -> Result<ReadAnswer, (Refusal, ReadIntent)>
-        ensures { (t : Table) (e : End) → Leaves (defined t (moment_of self.old client.now server.now e) (read intent)) (replied_with read_reply result) (moment_of self.new client.now server.now e) none }
+        ensures defined { (t : Table) (e : End) → Leaves (defined t (moment_of self.old client.now server.now e) (read intent)) (replied_with read_reply result) (moment_of self.new client.now server.now e) none }
+        ensures back { GivesBack intent result }
     {
         if !self.map.fits(client, server) {
             return Err((Refusal::BadRoom, intent));

@@ -4,7 +4,7 @@ ghost use Rattle.std.specs.Prelude.{◌≡◌, true};
 ghost use Rattle.object_map.specs.Map.{map_of, fits};
 ghost use Rattle.transport.specs.Ends.{End};
 ghost use Rattle.client.specs.Calls.{settle, flush, defined};
-ghost use Rattle.client.specs.Coded.{Leaves, replied_with, settled_reply, flush_reply};
+ghost use Rattle.client.specs.Coded.{Leaves, replied_with, GivesBack, settled_reply, flush_reply};
 ghost use Rattle.client.specs.Requests.{Table};
 ghost use Rattle.client.specs.State.{moment_of, both_marked, with_data, changed_at, none};
 
@@ -30,7 +30,8 @@ impl Connection {
         event: HandedEvent,
         data: u64,
     ) -> Result<Settled, (Refusal, HandedEvent)>
-        ensures { (t : Table) (e : End) → Leaves (defined t (moment_of self.old client.old server.old e) (settle event «data»)) (replied_with settled_reply result) (moment_of self.new client.new server.new e) none }
+        ensures defined { (t : Table) (e : End) → Leaves (defined t (moment_of self.old client.old server.old e) (settle event «data»)) (replied_with settled_reply result) (moment_of self.new client.new server.new e) none }
+        ensures back { GivesBack event result }
     {
         if !self.map.fits(client, server) {
             return Err((Refusal::BadRoom, event));

@@ -1,7 +1,4 @@
 //! Worked cases, through the calls themselves.
-//!
-//! A connection is never let go, and neither is a round: so each test holds what it was given to its end, which is a panic
-//! of its own.
 
 use crate::{Frames, Lent, Turn, ask, change_mind, send_sync, take_turn};
 use client::connection::{Connection, HandedEvent, ReadIntent, Round};
@@ -161,7 +158,6 @@ fn first_life(
 }
 
 #[test]
-#[should_panic(expected = "held to the end")]
 fn a_number_comes_back(rt: HostRuntime) {
     let interfaces = core_interfaces();
     let Ok(table) = InterfaceTable::new(&interfaces) else {
@@ -207,11 +203,10 @@ fn a_number_comes_back(rt: HostRuntime) {
             .flush(&lent.client, &lent.server, &mut end)
             .is_ok()
     );
-    panic!(rt; "held to the end")
+    connection.end();
 }
 
 #[test]
-#[should_panic(expected = "held to the end")]
 fn a_read_waits_for_another(rt: HostRuntime) {
     let mut lent = Lent::new();
     let mut connection = connect(&rt, &mut lent);
@@ -241,11 +236,10 @@ fn a_read_waits_for_another(rt: HostRuntime) {
         Ok(()) => {}
         Err(_) => panic!(rt; "another read can be prepared and cancelled"),
     }
-    panic!(rt; "held to the end")
+    connection.end();
 }
 
 #[test]
-#[should_panic(expected = "held to the end")]
 fn an_unknown_sender_ends_the_round(rt: HostRuntime) {
     let interfaces = core_interfaces();
     let Ok(table) = InterfaceTable::new(&interfaces) else {
@@ -266,7 +260,7 @@ fn an_unknown_sender_ends_the_round(rt: HostRuntime) {
         Ok(Turn::Fault(fault)) => assert!(rt; is_malformed(Err(fault))),
         _ => panic!(rt; "the fault is stored"),
     }
-    panic!(rt; "held to the end")
+    connection.end();
 }
 
 fn is_malformed(answer: Result<u64, WaylandError>) -> bool {
@@ -278,7 +272,6 @@ fn is_malformed(answer: Result<u64, WaylandError>) -> bool {
 }
 
 #[test]
-#[should_panic(expected = "held to the end")]
 fn a_turn_answers_an_event(rt: HostRuntime) {
     let interfaces = core_interfaces();
     let Ok(table) = InterfaceTable::new(&interfaces) else {
@@ -301,11 +294,10 @@ fn a_turn_answers_an_event(rt: HostRuntime) {
     }
     assert!(rt; end.sent_len() == 2, "both syncs were sent");
     assert!(rt; connection.info(&lent.client, &lent.server, first).is_err());
-    panic!(rt; "held to the end")
+    connection.end();
 }
 
 #[test]
-#[should_panic(expected = "held to the end")]
 fn rooms_of_another_length_are_refused(rt: HostRuntime) {
     let interfaces = core_interfaces();
     let Ok(table) = InterfaceTable::new(&interfaces) else {
@@ -368,7 +360,7 @@ fn rooms_of_another_length_are_refused(rt: HostRuntime) {
         _ => panic!(rt; "nothing was created"),
     };
     assert!(rt; refusal == Refusal::BadData);
-    let settled = settled(&rt, &mut connection, &mut lent, event);
-    assert!(rt; matches!(settled.notice, Some(notice) if notice.data == 5));
-    panic!(rt; "held to the end")
+    let Settled { round, notice } = settled(&rt, &mut connection, &mut lent, event);
+    assert!(rt; matches!(notice, Some(notice) if notice.data == 5));
+    round.end(connection.end());
 }
