@@ -104,6 +104,7 @@ impl Declared {
         for word in words {
             match word.split_once('=') {
                 None if *word == "destructor" => declared.is_destructor = true,
+                None if *word == "generic" => declared.child = None,
                 Some(("child", child)) => declared.child = read_child(child)?,
                 Some(("args", args)) => declared.args = read_list(alloc, args)?,
                 _ => return Err(Stop::Script(ScriptError::Description)),
