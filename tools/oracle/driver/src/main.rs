@@ -1,7 +1,7 @@
 //! Runs scripts through the original and prints every answer, in the format of docs/REPLAY.md.
 //!
-//! Beyond that format: a line `script NAME` ends the script in hand, is printed, and begins another; `panic "TEXT"` ends a
-//! script whose line made the original panic; `stuck` ends the program where a line does not come back within two seconds.
+//! Beyond that format: `panic "TEXT"` ends a script whose line made the original panic, and `poisoned` follows where every
+//! later call panics too; `stuck` ends the program where a line does not come back within two seconds.
 
 mod compositor;
 mod table;
@@ -18,7 +18,7 @@ use std::time::Duration;
 use table::Table;
 use wayland_backend::protocol::{Argument, Message};
 use wayland_backend::rs::client::{Backend, ObjectData, ObjectId, ReadEventsGuard, WaylandError};
-use words::{decode, hex, quoted, text, unhex};
+use words::{decode, hex, name, quoted, text, unhex};
 
 /// What a script has in hand. The callbacks reach it too, so it is borrowed for a moment at a time.
 #[derive(Default)]
@@ -77,7 +77,7 @@ fn settled() {
 fn bare(id: &ObjectId) -> String {
     let debug = format!("{id:?}");
     let serial = debug.rsplit([' ', ')']).nth(1).unwrap_or_default();
-    format!("{}/{}/{}", id.protocol_id(), serial, with(|s| s.table.number(id.interface())))
+    format!("{}/{}/{}", id.protocol_id(), serial, name(id.interface().name.as_bytes()))
 }
 
 /// A handle as it is printed, which takes the next K.
@@ -110,7 +110,7 @@ fn fault(e: &WaylandError) -> String {
     match e {
         WaylandError::Io(e) => format!("io {}", e.raw_os_error().unwrap_or(0)),
         WaylandError::Protocol(e) => {
-            let interface = if e.object_interface.is_empty() { "-".to_string() } else { text(e.object_interface.as_bytes()) };
+            let interface = if e.object_interface.is_empty() { "-".to_string() } else { name(e.object_interface.as_bytes()) };
             format!("protocol {} {} {} \"{}\"", e.code, e.object_id, interface, quoted(e.message.as_bytes()))
         }
     }
@@ -180,7 +180,7 @@ fn content(backend: &Backend, id: ObjectId) -> String {
 
 fn info(backend: &Backend, id: ObjectId) -> String {
     match backend.info(id) {
-        Ok(i) => format!("{} {} {}", i.id, with(|s| s.table.number(i.interface)), i.version),
+        Ok(i) => format!("{} {} {}", i.id, name(i.interface.name.as_bytes()), i.version),
         Err(_) => "refused 1".to_string(),
     }
 }
@@ -307,6 +307,9 @@ fn script(lines: VecDeque<(usize, String)>) {
     if let Err(why) = catch_unwind(AssertUnwindSafe(|| run(&backend, false))) {
         if !why.is::<Ended>() {
             println!("panic \"{}\"", quoted(PANIC.take().as_bytes()));
+            if catch_unwind(AssertUnwindSafe(|| backend.last_error())).is_err() {
+                println!("poisoned");
+            }
         }
     }
     // behind a panic the intents find their lock poisoned

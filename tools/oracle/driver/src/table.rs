@@ -122,9 +122,4 @@ impl Table {
         let place = word.parse().ok().and_then(|i: usize| self.interfaces.get(i));
         place.copied().ok_or_else(|| format!("script error: no interface: {word}"))
     }
-
-    /// The place of an interface, which may share its name with others.
-    pub fn number(&self, interface: &'static Interface) -> usize {
-        self.interfaces.iter().position(|i| std::ptr::eq(*i, interface)).unwrap_or(usize::MAX)
-    }
 }

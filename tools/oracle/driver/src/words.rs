@@ -7,12 +7,16 @@ fn escaped(bytes: &[u8], plain: impl Fn(u8) -> bool) -> String {
     bytes.iter().map(one).collect()
 }
 
+pub fn name(bytes: &[u8]) -> String {
+    escaped(bytes, |b| (0x21..=0x7e).contains(&b) && b != b'%')
+}
+
 /// A text as a word. The word `null` means none, so that text is written otherwise.
 pub fn text(bytes: &[u8]) -> String {
     if bytes == b"null" {
         return "%6Eull".to_string();
     }
-    escaped(bytes, |b| (0x21..=0x7e).contains(&b) && b != b'%')
+    name(bytes)
 }
 
 /// A text between quotes, where blanks stay.
@@ -21,7 +25,7 @@ pub fn quoted(bytes: &[u8]) -> String {
 }
 
 pub fn hex(bytes: &[u8]) -> String {
-    bytes.iter().map(|b| format!("{b:02x}")).collect()
+    bytes.iter().map(|b| format!("{b:02X}")).collect()
 }
 
 pub fn unhex(word: &str) -> Result<Vec<u8>, String> {
