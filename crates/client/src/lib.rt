@@ -3,6 +3,7 @@
 
 mod calls;
 pub mod connection;
+pub mod ending;
 pub mod error;
 pub mod laws;
 mod lookups;
