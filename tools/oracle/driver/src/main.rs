@@ -1,7 +1,7 @@
 //! Runs scripts through the original and prints every answer, in the format of docs/REPLAY.md.
 //!
 //! Beyond that format: `panic "TEXT"` ends a script whose line made the original panic, and `poisoned` follows where every
-//! later call panics too; `stuck` ends the program where a line does not come back within two seconds.
+//! later call panics too; `stuck` ends the program where a line does not come back within half a second.
 
 mod compositor;
 mod table;
@@ -321,7 +321,7 @@ fn script(lines: VecDeque<(usize, String)>) {
 fn watch() {
     let mut before = 0;
     loop {
-        std::thread::sleep(Duration::from_secs(2));
+        std::thread::sleep(Duration::from_millis(500));
         let now = PROGRESS.load(Ordering::SeqCst);
         if now == before {
             println!("stuck");
