@@ -1,7 +1,7 @@
 //! The calls of the crate `client` as a user makes them: what they give is spent once, and nothing of it is let go.
 //!
 //! A prepared read, an open round and an event in hand are values that are used up by the call that takes them. A refused
-//! call gives its value back, and then it goes out with the answer here. `must-fail/` has what a user may not write.
+//! call gives its value back, and then it goes out with the answer here. `refused/` has what a user may not write.
 #![tactic(auto)]
 
 #[cfg(test)]
