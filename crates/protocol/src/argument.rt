@@ -1,6 +1,6 @@
 //! The arguments of a message and their kinds.
 
-ghost use Rattle.std.specs.Prelude.{◌≡◌};
+ghost use Rattle.std.specs.Prelude.{◌≡◌, length};
 ghost use Rattle.protocol.specs.Arguments.{same_type, type_of, agrees};
 
 /// Whether an argument may be null.
@@ -82,9 +82,16 @@ impl<Id: Copy> Argument<Id> {
 pub fn check_for_signature<Id: Copy>(signature: &[ArgumentType], args: &[Argument<Id>]) -> bool
     ensures { result ≡ agrees signature.now args.now }
 {
-    signature.len() == args.len()
-        && signature
-            .iter()
-            .zip(args)
-            .all(|(kind, arg)| arg.get_type().same_type(*kind))
+    signature.len() == args.len() && kinds_agree(signature, args)
+}
+
+// The kinds of as many arguments, place by place.
+fn kinds_agree<Id: Copy>(signature: &[ArgumentType], args: &[Argument<Id>]) -> bool
+    requires { length signature.now ≡ length args.now }
+    ensures { result ≡ agrees signature.now args.now }
+{
+    signature
+        .iter()
+        .zip(args)
+        .all(|(kind, arg)| arg.get_type().same_type(*kind))
 }

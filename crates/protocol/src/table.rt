@@ -43,9 +43,12 @@ impl<'a> InterfaceTable<'a> {
     pub fn interface(&self, number: u16) -> Interface<'a>
         ensures { description_of result ≡ interface_at (table_of self.now) number }
     {
+        // No `or` between the two: it would look both up at each call.
+        if let Some(interface) = self.interfaces.get(usize::from(number)) {
+            return *interface;
+        }
         self.interfaces
-            .get(usize::from(number))
-            .or(self.interfaces.get(usize::from(ANONYMOUS)))
+            .get(usize::from(ANONYMOUS))
             .copied()
             .unwrap_or(ANONYMOUS_INTERFACE)
     }

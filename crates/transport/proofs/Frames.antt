@@ -17,8 +17,8 @@ use Rattle.protocol.specs.declared.refusal.Refusal.TheVariants.{BadRoom}
 use Rattle.transport.proofs.Clips.{length-laid, held_held, given_none, laid_back}
 
 -- no child is put into the arguments of a frame
-pub held_plain : (args : List (Argument ObjectId)) (text : List ℕ) → held (map (given 0) (args_of args text)) ≡ held (args_of args text)
-held_plain args text = ap held (given_none (args_of args text))
+pub held_plain : (args used : List (Argument ObjectId)) (text : List ℕ) → used ≡ args → held (map (given 0) (args_of used text)) ≡ held (args_of args text)
+held_plain args used text e = ap held (given_none (args_of used text)) ∙ ap (λ (l : List (Argument ObjectId)). held (args_of l text)) e
 
 same : (c c' : ℕ) (a a' f : List (Argument ObjectId)) (t t' : List ℕ) (ms : List Arg) → c ≡ c' → a ≡ a' → t ≡ t' → take c' a' ≡ f → args_of f t' ≡ ms → args_of (take c a) t ≡ ms
 same c c' a a' f t t' ms p q r front back = cc
@@ -53,10 +53,10 @@ fits_clip n text [] (a ∷ args) = refl
 fits_clip n text (t ∷ ts) [] = refl
 fits_clip n text (t ∷ ts) (a ∷ args) = let p = kind_same n text a in let q = fits_clip (n - length (bytes_of (arg_of text a))) text ts args in cc
 
-pub fits_few : (c : ℕ) (text : List ℕ) (ts : List ArgumentType) (args : List (Argument ObjectId)) → c ≤ 20 → fits ts (held (args_of (take c args) text)) ≡ fits_raw ts (take c args)
-fits_few c text ts args h =
+pub fits_few : (c : ℕ) (text : List ℕ) (ts : List ArgumentType) (args used : List (Argument ObjectId)) → length args ≤ 20 → used ≡ take c args → fits ts (held (args_of (take c args) text)) ≡ fits_raw ts used
+fits_few c text ts args used h e =
     let few : length (args_of (take c args) text) ≤ 20 = omega (arith, length-map (take c args) (arg_of text), length-take c args) in
-    ap (λ (l : List Arg). fits ts (clip 1024 l)) (take_all 20 (args_of (take c args) text) few) ∙ fits_clip 1024 text ts (take c args)
+    ap (λ (l : List Arg). fits ts (clip 1024 l)) (take_all 20 (args_of (take c args) text) few) ∙ fits_clip 1024 text ts (take c args) ∙ ap (fits_raw ts) (sym e)
 
 roomy_ok : (b : Bool) → ◌≡◌ {A = Result (Unit {0}) Refusal} (Ok tt) (cond b (Ok tt) (Err BadRoom)) → b ≡ true
 roomy_ok true e = refl

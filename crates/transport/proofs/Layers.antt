@@ -7,7 +7,7 @@ use Rattle.std.specs.List.{slice_get}
 use Rattle.protocol.specs.declared.error.TransportFault.{TransportFault}
 use Rattle.transport.specs.Wire.{Message}
 use Rattle.transport.specs.Rings.{Queue, pushing}
-use Rattle.transport.specs.Ends.{End, fault, sending, put_fault, putting, flushing, Grounded}
+use Rattle.transport.specs.Ends.{End, fault, sending, put_fault, putting, flushing, Grounded, GroundedIf}
 use Rattle.transport.specs.Layers.{queue, total, over, Layers, passed_or, pass_down, passing, raised, raised_in, held_or, hold_again, put_through, and_then, left_behind, flush_through}
 
 abbrev Put : Type 0
@@ -210,6 +210,11 @@ module _ (m : Message) (e : End) (q : Queue) (ground : Grounded e) (some : 0 < t
 
   pub put_over : (t : Layers) → t ≡ put_through m e q → seen t ≡ putting m (over e q)
   put_over t h = ap seen h ∙ first_try (pushing m q) refl
+
+-- what holds of an end holds where its put faulted
+pub ground_if : {A : Type 0} (r : Result A TransportFault) (e : End) → Grounded e → GroundedIf r e
+ground_if (Ok _) e g = tt
+ground_if (Err _) e g = g
 
 -- a flush through a layer is a flush of that end
 pub flush_over : (t : Layers) (e : End) (q : Queue) → t ≡ flush_through e q → (over t.1 t.2 ≡ over e q) × (t.0 ≡ flushing (over e q))

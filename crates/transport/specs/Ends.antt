@@ -1,5 +1,5 @@
 -- What an end of a transport means, and what each call answers and leaves.
-use Rattle.std.specs.Prelude.{◌≡◌, ℕ, ◌-◌, cond, List, [], ◌∷◌, ◌++◌, Some, None, Ok, Err, Option, Result, ◌==◌, nat_le}
+use Rattle.std.specs.Prelude.{◌≡◌, ℕ, ◌-◌, cond, List, [], ◌∷◌, ◌++◌, Some, None, Ok, Err, Option, Result, OnErr, ◌==◌, nat_le}
 use Rattle.protocol.specs.declared.argument.Argument.{Argument}
 use Rattle.protocol.specs.declared.argument.ArgumentType.{ArgumentType}
 use Rattle.protocol.specs.declared.error.TransportFault.{TransportFault}
@@ -83,3 +83,7 @@ pub record Grounded (e : End) : Type 0 where
   pub low : e.hold ≡ 0 → e.height ≡ 0
   pub reads : e.read_stop ≡ 11 → ⊥
   pub stops : e.write_stop ≡ 11 → ⊥
+
+-- the same, of an end whose put faulted
+abbrev pub GroundedIf : {A : Type 0} → Result A TransportFault → End → Type 0
+GroundedIf r e = OnErr r (Grounded e)

@@ -2,7 +2,7 @@
 
 ghost use Rattle.std.specs.Prelude.{◌≡◌, [], ◌∷◌, ◌++◌};
 ghost use Rattle.transport.specs.Drafts.{outgoing_of};
-ghost use Rattle.transport.specs.Ends.{putting, flushing};
+ghost use Rattle.transport.specs.Ends.{putting, flushing, Grounded, GroundedIf};
 ghost use Rattle.transport.specs.Layers.{held_of, over, passing, raised, put_through, flush_through, buffering, layered};
 ghost use Rattle.transport.specs.Grounds.{over_grounded, held_some};
 ghost use Rattle.transport.specs.Stacks.{stacked_more};
@@ -71,6 +71,7 @@ impl<E: Transport> Transport for BufferedEnd<E> {
     fn put(&mut self, message: &Outgoing<'_>) -> Result<(), TransportFault>
         ensures layers { (result, E.Transport.means self.new.lower, held_of self.new.held) ≡ put_through (outgoing_of message.now) (E.Transport.means self.old.lower) (held_of self.old.held) }
         ensures defined { (result, over (E.Transport.means self.new.lower) (held_of self.new.held)) ≡ putting (outgoing_of message.now) (over (E.Transport.means self.old.lower) (held_of self.old.held)) }
+        ensures grounded { GroundedIf result (over (E.Transport.means self.old.lower) (held_of self.old.held)) }
     {
         if self.held.push(message) {
             return Ok(());
@@ -87,6 +88,7 @@ impl<E: Transport> Transport for BufferedEnd<E> {
         ensures layers { (result, E.Transport.means self.new.lower, held_of self.new.held) ≡ flush_through (E.Transport.means self.old.lower) (held_of self.old.held) }
         ensures same { over (E.Transport.means self.new.lower) (held_of self.new.held) ≡ over (E.Transport.means self.old.lower) (held_of self.old.held) }
         ensures answer { result ≡ flushing (over (E.Transport.means self.old.lower) (held_of self.old.held)) }
+        ensures grounded { Grounded (over (E.Transport.means self.old.lower) (held_of self.old.held)) }
     {
         let passed = pass(&mut self.lower, &mut self.held);
         self.lower.flush()?;
@@ -119,10 +121,12 @@ impl<E: World> World for BufferedEnd<E> {
 
     ghost stack = { λ s. stacked_more (held_of s.held) (E.Transport.means s.lower) (E.World.bottom s.lower) (E.World.above s.lower) (E.World.stack s.lower) };
 
+    #[tactic(auto, using(crate::specs::Stacks::stacked_more))]
     fn deliver(&mut self, message: &Outgoing<'_>) -> bool {
         self.lower.deliver(message)
     }
 
+    #[tactic(auto, using(crate::specs::Stacks::stacked_more))]
     fn collect(&mut self, n: usize) -> usize {
         self.lower.collect(n)
     }
@@ -135,10 +139,12 @@ impl<E: World> World for BufferedEnd<E> {
         self.lower.sent_at(i)
     }
 
+    #[tactic(auto, using(crate::specs::Stacks::stacked_more))]
     fn set_read_stop(&mut self, stop: Option<u32>) {
         self.lower.set_read_stop(stop);
     }
 
+    #[tactic(auto, using(crate::specs::Stacks::stacked_more))]
     fn set_write_stop(&mut self, stop: Option<u32>) {
         self.lower.set_write_stop(stop);
     }

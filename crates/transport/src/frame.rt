@@ -1,11 +1,11 @@
 //! A frame: a message in a place of fixed size, written only as far as it is used.
 
-ghost use Rattle.std.specs.Prelude.{◌≡◌, ◌≤◌, [], Some, length};
+ghost use Rattle.std.specs.Prelude.{◌≡◌, ◌≤◌, [], Some, length, take};
 ghost use Rattle.transport.specs.Layout.{arg_of};
 ghost use Rattle.transport.specs.Texts.{take_text};
 ghost use Rattle.transport.specs.Signatures.{takes, kind_of, fits_raw};
 
-use crate::layout::{check_rooms, lay};
+use crate::layout::{MAX_ARGS, check_rooms, lay};
 use crate::outgoing::Outgoing;
 use protocol::argument::{AllowNull, Argument, ArgumentType};
 use protocol::id::ObjectId;
@@ -13,7 +13,8 @@ use protocol::refusal::Refusal;
 use std::fmt;
 
 /// A place for one message.
-// Arrays of fixed length and a count: nothing allocates, and a frame is written where it lies.
+// Arrays of fixed length and a count: nothing allocates, and a frame is written where it lies. No ghost field says that the
+// count is at most 20: a caller's type that holds a frame beside a `&mut` could then be no type argument.
 #[derive(Clone, Copy)]
 pub struct Frame {
     sender: u32,
@@ -21,7 +22,6 @@ pub struct Frame {
     count: usize,
     args: [Argument<ObjectId>; 20],
     text: [u8; 1024],
-    ghost few: { count ≤ 20 },
 }
 
 /// Why no frame was taken.
@@ -84,7 +84,7 @@ impl Frame {
             sender: self.sender,
             opcode: self.opcode,
             child: 0,
-            args: &self.args[..self.count],
+            args: self.in_use(),
             text: &self.text,
         }
     }
@@ -109,7 +109,7 @@ impl Frame {
         ensures { (result, args.new, text.new) ≡ reading (frame_of self.now).args args.old text.old }
     {
         check_rooms(args, text)?;
-        Ok(lay(0, &self.args[..self.count], &self.text, args, text))
+        Ok(lay(0, self.in_use(), &self.text, args, text))
     }
 
     /// The same where the arguments fit a signature.
@@ -123,10 +123,17 @@ impl Frame {
         requires text { 1024 ≤ length text.old }
         ensures { (result, args.new, text.new) ≡ unpacking signature.now (frame_of self.now).args args.old text.old }
     {
-        if !accepts_all(signature, &self.args[..self.count]) {
+        if !accepts_all(signature, self.in_use()) {
             return Err(TakeError::Malformed);
         }
-        Ok(lay(0, &self.args[..self.count], &self.text, args, text))
+        Ok(lay(0, self.in_use(), &self.text, args, text))
+    }
+
+    // The arguments in use. `message` and `set` count 20 at most; a count above that would mean all 20.
+    fn in_use(&self) -> &[Argument<ObjectId>]
+        ensures { result.now ≡ take self.now.count self.now.args }
+    {
+        &self.args[..self.count.min(MAX_ARGS)]
     }
 }
 

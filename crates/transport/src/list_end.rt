@@ -94,6 +94,7 @@ impl<'a> Transport for ListEnd<'a> {
         Ok(count)
     }
 
+    #[tactic(auto, using(crate::specs::Grounds::list_grounded))]
     fn put(&mut self, message: &Outgoing<'_>) -> Result<(), TransportFault> {
         if let Some(code) = stopped_by(self.write_stop) {
             return Err(TransportFault { layer: 0, code });
@@ -108,6 +109,7 @@ impl<'a> Transport for ListEnd<'a> {
         }
     }
 
+    #[tactic(auto, using(crate::specs::Grounds::list_grounded))]
     fn flush(&mut self) -> Result<(), TransportFault> {
         match stopped_by(self.write_stop) {
             None => Ok(()),

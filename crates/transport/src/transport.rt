@@ -2,7 +2,7 @@
 
 ghost use Rattle.std.specs.Prelude.{◌≡◌};
 ghost use Rattle.transport.specs.Drafts.{outgoing_of};
-ghost use Rattle.transport.specs.Ends.{End, first_in, taking, putting, flushing, Grounded};
+ghost use Rattle.transport.specs.Ends.{End, first_in, taking, putting, flushing, Grounded, GroundedIf};
 
 use crate::frame::TakeError;
 use crate::outgoing::Outgoing;
@@ -34,14 +34,17 @@ pub trait Transport {
     /// Accepts a message behind the others. Where there is no room it faults and changes nothing: with the code that
     /// stopped writing; else it would block, at the bottom, and the frames that are held back are too many, above it.
     fn put(&mut self, message: &Outgoing<'_>) -> Result<(), TransportFault>
-        ensures { (result, means self.new) ≡ putting (outgoing_of message.now) (means self.old) };
+        ensures defined { (result, means self.new) ≡ putting (outgoing_of message.now) (means self.old) }
+        ensures grounded { GroundedIf result (means self.old) };
 
     /// Passes what was accepted on, as far as it goes. Faults with the code that stopped writing; else it would block
     /// where not all reached the bottom.
     fn flush(&mut self) -> Result<(), TransportFault>
         ensures same { means self.new ≡ means self.old }
-        ensures answer { result ≡ flushing (means self.old) };
+        ensures answer { result ≡ flushing (means self.old) }
+        ensures grounded { Grounded (means self.old) };
 
-    // A law: where nothing lies above the bottom no layer is named, and a stop is never "would block".
+    // A law: where nothing lies above the bottom no layer is named, and a stop is never "would block". The calls say it too,
+    // since who calls through a `dyn` reaches no law.
     ghost grounded: { (s : Self) → Grounded (means s) };
 }

@@ -24,13 +24,16 @@ pub trait World: Transport {
     // A yes or no: a room that is full has nothing more to say.
     fn deliver(&mut self, message: &Outgoing<'_>) -> bool
         ensures defined { (result, bottom self.new) ≡ delivering (outgoing_of message.now) (bottom self.old) }
-        ensures above { above self.new ≡ above self.old };
+        ensures above { above self.new ≡ above self.old }
+        ensures stack { Self.Transport.means self.new ≡ stacked (bottom self.new) (above self.new) };
 
     /// The first `n` frames that were sent and reached the bottom go, and their places are free again. Answers how many
     /// there were.
     fn collect(&mut self, n: usize) -> usize
         ensures defined { (result, bottom self.new) ≡ collecting n (bottom self.old) }
-        ensures above { above self.new ≡ above self.old };
+        ensures above { above self.new ≡ above self.old }
+        ensures before { Self.Transport.means self.old ≡ stacked (bottom self.old) (above self.old) }
+        ensures stack { Self.Transport.means self.new ≡ stacked (bottom self.new) (above self.new) };
 
     /// How many sent frames there are at the bottom.
     fn sent_len(&self) -> usize
@@ -44,13 +47,16 @@ pub trait World: Transport {
     /// Reading meets this code once no frame waits; 0 and 11 are read as none.
     fn set_read_stop(&mut self, stop: Option<u32>)
         ensures defined { bottom self.new ≡ stopping_reads (code_of stop) (bottom self.old) }
-        ensures above { above self.new ≡ above self.old };
+        ensures above { above self.new ≡ above self.old }
+        ensures stack { Self.Transport.means self.new ≡ stacked (bottom self.new) (above self.new) };
 
     /// Writing meets this code; 0 and 11 are read as none.
     fn set_write_stop(&mut self, stop: Option<u32>)
         ensures defined { bottom self.new ≡ stopping_writes (code_of stop) (bottom self.old) }
-        ensures above { above self.new ≡ above self.old };
+        ensures above { above self.new ≡ above self.old }
+        ensures stack { Self.Transport.means self.new ≡ stacked (bottom self.new) (above self.new) };
 
-    // A law: what an end means is what lies at the bottom, and above it.
+    // A law: what an end means is what lies at the bottom, and above it. The calls say it too, since who calls through a `dyn`
+    // reaches no law.
     ghost stack: { (s : Self) → Self.Transport.means s ≡ stacked (bottom s) (above s) };
 }

@@ -1,5 +1,7 @@
 //! Two buffered ends of one frame over a list end of one place.
 
+ghost use Rattle.transport.specs.Ends.{Grounded};
+
 use protocol::argument::{Argument, ArgumentType};
 use protocol::error::TransportFault;
 use protocol::id::ObjectId;
@@ -146,5 +148,45 @@ fn a_frame_that_does_not_fit_waits(rt: HostRuntime) -> Result<(), Fail> {
         taken(&mut list, &[ArgumentType::Uint], &mut places) == Err(TakeError::Malformed),
         "it is gone"
     );
+    Ok(())
+}
+
+/// A frame kept beside an end, as an end of a caller's own may.
+#[derive(Drop)]
+struct Spare<'a> {
+    end: ListEnd<'a>,
+    frame: Frame,
+}
+
+// A type argument that holds a room by `&mut` and a frame.
+fn keep(end: ListEnd<'_>) -> Option<Spare<'_>> {
+    Some(Spare {
+        end,
+        frame: Frame::EMPTY,
+    })
+}
+
+/// Flushes some end. Who calls through a `dyn` knows what the calls say, and no law of the trait.
+fn flush_some(end: &mut dyn Transport) -> bool
+    ensures { Grounded (means end.old) }
+{
+    end.flush().is_ok()
+}
+
+#[test]
+fn a_frame_may_be_kept_beside_an_end(rt: HostRuntime) -> Result<(), Fail> {
+    let mut incoming = [Frame::EMPTY; 1];
+    let mut outgoing = [Frame::EMPTY; 1];
+    let Some(Spare { mut end, mut frame }) = keep(ListEnd::new(&mut incoming, &mut outgoing)) else {
+        return Err(Fail::new("a frame and an end are kept"));
+    };
+    let args = [Argument::Uint(7)];
+    let Ok(message) = Outgoing::new(5, 6, &args, &[]) else {
+        return Err(Fail::new("one argument is allowed"));
+    };
+    frame.set(&message);
+    assert!(rt; end.put(&frame.message()).is_ok());
+    assert!(rt; flush_some(&mut end));
+    assert!(rt; collect_one(&mut end) == Some(7));
     Ok(())
 }

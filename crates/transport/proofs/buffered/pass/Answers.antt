@@ -8,7 +8,7 @@ pub returns-in_err-put : goal.returns-in_err-put
 returns-in_err-put g c =
     let p = err_from_is_err_and c.from_residual.result c.from_residual.ensures.1 in
     rw (p.1, p.2)
-    (pass_stop _ _ (held_of c.loop-frame.held).frames (held_of c.loop-frame.held).free _ _ _ c.in-Some.ensures c.message.ensures c.in_err-put.ensures ∙ sym c.loop-frame.invariant)
+    (pass_stop _ _ (held_of c.loop-frame.held).frames (held_of c.loop-frame.held).free _ _ _ c.in-Some.ensures c.message.ensures c.in_err-put.ensures.defined ∙ sym c.loop-frame.invariant)
 
 pub returns : goal.returns
 returns g c = pass_end _ (held_of c.loop-frame.held).frames (held_of c.loop-frame.held).free c.in_default.ensures ∙ sym c.loop-frame.invariant

@@ -9,5 +9,5 @@ use Rattle.client.proofs.connection.Connection.put.Goals as goal
 pub returns-in_default : goal.returns-in_default
 returns-in_default g c =
     let m = g.E.Transport.means c.args.end.now in
-    let e = c.in_default.ensures ∙ ap (λ d. putting (clipped (spoken d)) m) c.with_child.ensures in
+    let e = c.in_default.ensures.defined ∙ ap (λ d. putting (clipped (spoken d)) m) c.with_child.ensures in
     (ap (λ r. with_put r.0 (conn_of c.args.self.now)) e, refl, ap (λ r. r.1) e)

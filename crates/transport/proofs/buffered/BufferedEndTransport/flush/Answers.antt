@@ -1,5 +1,6 @@
 use Rattle.std.proofs.Common.{rules, ◌≡◌}
 use Rattle.transport.specs.Layers.{held_of, Layers, flush_through}
+use Rattle.transport.specs.Grounds.{over_grounded, held_some}
 use Rattle.transport.proofs.Layers.{flush_over}
 use Rattle.transport.proofs.buffered.BufferedEndTransport.flush.Goals as goal
 
@@ -10,7 +11,7 @@ returns-in_err-flush g c =
     let t : Layers = (c.from_residual.result, g.E.Transport.means c.flush.new.self, held_of c.pass-passed.new.held) in
     let layers : t ≡ flush_through e q = search rules in
     let over = flush_over t e q layers in
-    record { layers = layers; same = over.0; answer = over.1 }
+    record { layers = layers; same = over.0; answer = over.1; grounded = over_grounded e q (g.met.E.Transport.grounded c.args.self.now.lower) (held_some c.args.self.now.held) }
 
 pub returns : goal.returns
 returns g c =
@@ -19,4 +20,4 @@ returns g c =
     let t : Layers = (c.map_err.result, g.E.Transport.means c.flush.new.self, held_of c.pass-passed.new.held) in
     let layers : t ≡ flush_through e q = search rules in
     let over = flush_over t e q layers in
-    record { layers = layers; same = over.0; answer = over.1 }
+    record { layers = layers; same = over.0; answer = over.1; grounded = over_grounded e q (g.met.E.Transport.grounded c.args.self.now.lower) (held_some c.args.self.now.held) }

@@ -4,4 +4,4 @@ use Rattle.transport.proofs.Frames.{held_plain}
 use Rattle.transport.proofs.frame.Frame.message.Goals as goal
 
 pub returns : goal.returns
-returns c = ap (message c.args.self.now.sender c.args.self.now.opcode) (held_plain (take c.args.self.now.count c.args.self.now.args) c.args.self.now.text)
+returns c = ap (message c.args.self.now.sender c.args.self.now.opcode) (held_plain (take c.args.self.now.count c.args.self.now.args) _ c.args.self.now.text c.in_use.ensures)

@@ -4,4 +4,5 @@ use Rattle.transport.proofs.frame.Frame.read.Goals as goal
 
 pub returns : goal.returns
 returns c =
-    read_so c.args.args.now c.args.text.now _ _ (held_plain (take c.args.self.now.count c.args.self.now.args) c.args.self.now.text) _ _ _ c.lay.ensures c.in_ok-check_rooms.ensures
+    read_so c.args.args.now c.args.text.now _ _
+    (held_plain (take c.args.self.now.count c.args.self.now.args) _ c.args.self.now.text c.in_use.ensures) _ _ _ c.lay.ensures c.in_ok-check_rooms.ensures

@@ -14,4 +14,4 @@ collect_so s n gone len r g l q =
 
 pub returns : goal.returns
 returns c =
-    record { defined = collect_so c.args.self.now c.args.n _ _ _ c.min-gone.ensures c.sent_len.ensures (c.release.ensures _ refl); above = refl }
+    record { defined = collect_so c.args.self.now c.args.n _ _ _ c.min-gone.ensures c.sent_len.ensures (c.release.ensures _ refl); above = refl; before = refl; stack = refl }
